@@ -1,0 +1,15 @@
+use crate::list::List;
+use crate::name::Name;
+
+/// A term of λD as plain data, node by node as in [`View`](crate::View).
+#[derive(Debug, Drop)]
+pub enum Term {
+    Star,
+    Square,
+    Var(u32),
+    App(Box<Term>, Box<Term>),
+    Lam(Box<Term>, Box<Term>),
+    Pi(Box<Term>, Box<Term>),
+    Const(Name, List<Term>),
+    Meta(u32, List<Term>),
+}
