@@ -1,6 +1,5 @@
 -- What one node of a store means, and what a store keeps while it grows.
 use Rattle.std.specs.Prelude.{◌≡◌, List, [], ◌∷◌, map, All}
-use Rattle.std.specs.Borrow.{Bor}
 use Rattle.ld_trees.specs.Term.{Term, Star, Square, Var, App, Lam, Pi, Const, Meta, Terms, none, ◌▹◌}
 use Rattle.ld_terms.specs.declared.view.View.{View}
 use Rattle.ld_terms.specs.declared.view.View.TheVariants as view

@@ -2,6 +2,7 @@
 //! that every crate of panto uses.
 #![tactic(auto)]
 
+mod boxed;
 mod fuel;
 mod globals;
 mod list;
@@ -10,6 +11,7 @@ mod term;
 mod terms;
 mod view;
 
+pub use boxed::Boxed;
 pub use fuel::Fuel;
 pub use globals::{Decl, Globals, Item, Local};
 pub use list::{Bytes, List};

@@ -1,3 +1,4 @@
+use crate::boxed::Boxed;
 use crate::list::List;
 use crate::name::Name;
 
@@ -7,9 +8,9 @@ pub enum Term {
     Star,
     Square,
     Var(u32),
-    App(Box<Term>, Box<Term>),
-    Lam(Box<Term>, Box<Term>),
-    Pi(Box<Term>, Box<Term>),
+    App(Boxed<Term>, Boxed<Term>),
+    Lam(Boxed<Term>, Boxed<Term>),
+    Pi(Boxed<Term>, Boxed<Term>),
     Const(Name, List<Term>),
     Meta(u32, List<Term>),
 }

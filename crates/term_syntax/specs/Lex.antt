@@ -1,0 +1,88 @@
+-- The tokens of a text. Blanks separate them. A byte that begins no token, and a name that is too long, are tokens of the kind Bad.
+use Rattle.std.specs.Prelude.{ℕ, zero, suc, ◌+◌, ◌-◌, Bool, ◌&&◌, ◌||◌, if◌then◌else◌, ◌==◌, nat_le, nat_lt, List, [], ◌∷◌, take, drop, slice_index, codes}
+use Rattle.std.specs.List.{prefix_len}
+use Rattle.std.specs.Str.{bytes_eq}
+use Rattle.term_syntax.specs.declared.kind.Kind.{Kind}
+use Rattle.term_syntax.specs.declared.kind.Kind.TheVariants.{Bad, Star, Wild, Asked, Open, Close, Comma, Colon, Semi, Arrow, FatArrow, Assign, Name, Call, Level, Fun, Def, Prim}
+
+abbrev pub Text : Type 0
+Text = List ℕ
+
+abbrev pub is_blank : ℕ → Bool
+is_blank b = b == 32 || b == 9 || b == 13 || b == 10
+
+abbrev pub is_letter : ℕ → Bool
+is_letter b = (nat_le 65 b && nat_le b 90) || (nat_le 97 b && nat_le b 122)
+
+abbrev pub is_digit : ℕ → Bool
+is_digit b = nat_le 48 b && nat_le b 57
+
+abbrev pub is_tail : ℕ → Bool
+is_tail b = is_letter b || is_digit b || b == 95
+
+-- a kind, and a length in bytes
+abbrev pub Cut : Type 0
+Cut = Kind × ℕ
+
+-- the kind of a name, by the byte after it
+abbrev pub word_kind : Text → ℕ → Kind
+word_kind word next =
+    if bytes_eq word (codes "fun") then Fun
+    else (if bytes_eq word (codes "def") then Def
+    else (if bytes_eq word (codes "prim") then Prim
+    else (if next == 40 then Call else Name)))
+
+abbrev pub word : Text → Cut
+word z =
+    let end = prefix_len is_tail z in
+    if nat_lt 64 end then (Bad, 1) else (word_kind (take end z) (slice_index z end), end)
+
+-- a level name: `%0`, or `%` and one to nine digits of which the first is not 0
+abbrev pub level : Text → Cut
+level z =
+    let end = 1 + prefix_len is_digit (drop 1 z) in
+    if slice_index z 1 == 48 then (Level, 2)
+    else (if end == 1 || nat_lt 10 end then (Bad, 1) else (Level, end))
+
+abbrev pub by_second : ℕ → ℕ → Kind → Cut → Cut
+by_second next wanted long short = if next == wanted then (long, 2) else short
+
+abbrev pub punctuation : ℕ → ℕ → Cut
+punctuation b next =
+    if b == 42 then (Star, 1)
+    else (if b == 95 then (Wild, 1)
+    else (if b == 63 then (Asked, 1)
+    else (if b == 40 then (Open, 1)
+    else (if b == 41 then (Close, 1)
+    else (if b == 44 then (Comma, 1)
+    else (if b == 59 then (Semi, 1)
+    else (if b == 58 then by_second next 61 Assign (Colon, 1)
+    else (if b == 45 then by_second next 62 Arrow (Bad, 1)
+    else (if b == 61 then by_second next 62 FatArrow (Bad, 1)
+    else (Bad, 1))))))))))
+
+-- the token at the front of a text that begins with no blank
+unfoldable pub token : Text → Cut
+token z =
+    let b = slice_index z 0 in
+    if is_letter b then word z else (if b == 37 then level z else punctuation b (slice_index z 1))
+
+-- a token: its kind, its place and its text
+pub record Lexeme : Type 0 where
+  pub kind : Kind
+  pub at : ℕ
+  pub text : Text
+
+abbrev pub lexeme : ℕ → Text → Lexeme
+lexeme at z = record { kind = (token z).0; at = at; text = take (token z).1 z }
+
+-- The tokens of a text that begins at a place. The first number counts the bytes that are left of a token.
+abbrev pub lexemes_from : ℕ → ℕ → Text → List Lexeme
+lexemes_from left at [] = []
+lexemes_from (suc left) at (b ∷ z) = lexemes_from left (at + 1) z
+lexemes_from zero at (b ∷ z) =
+    if is_blank b then lexemes_from zero (at + 1) z
+    else lexeme at (b ∷ z) ∷ lexemes_from ((token (b ∷ z)).1 - 1) (at + 1) z
+
+unfoldable pub lexemes : ℕ → Text → List Lexeme
+lexemes at z = lexemes_from zero at z
