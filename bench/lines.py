@@ -1,0 +1,41 @@
+#!/usr/bin/env python3
+"""Echo lines per second and peak memory of `panto run`, side by side with `sed -u` on the same input.
+
+Usage: bench/lines.py [LINES]      (default 1,000,000; the program has to be built: run `./panto run </dev/null` once)
+
+Both programs read the same file and write to a pipe that is drained. `sed -u s/x/y/` writes each line as soon as it is read, as panto
+does. One run of each, printed as lines per second and the peak resident size in KiB. The aim for panto: at least 200,000 lines per second on
+one core, and memory that doesn't grow with the input (shown by a second run over a tenth of the lines).
+"""
+import os, resource, subprocess, sys, tempfile, time
+
+TOP = os.path.dirname(os.path.dirname(os.path.abspath(__file__)))
+LINE = b'expr.echo {"expr":"fun (A : *) => fun (x : A) => x"}\n'
+
+def run(words, path):
+    """Seconds and peak KiB of one run over the file, with its output counted and dropped."""
+    with open(path, "rb") as source:
+        begun = time.perf_counter()
+        child = subprocess.Popen(words, stdin=source, stdout=subprocess.PIPE)
+        lines = 0
+        while piece := child.stdout.read(1 << 20):
+            lines += piece.count(b"\n")
+        _, status, usage = os.wait4(child.pid, 0)
+        seconds = time.perf_counter() - begun
+    return seconds, usage.ru_maxrss, lines, os.waitstatus_to_exitcode(status)
+
+def main():
+    count = int(sys.argv[1]) if len(sys.argv) > 1 else 1_000_000
+    panto = os.path.join(TOP, "crates", "panto", "out", "panto")
+    with tempfile.TemporaryDirectory() as folder:
+        for n in (count, max(count // 10, 1)):
+            path = os.path.join(folder, "lines")
+            with open(path, "wb") as f:
+                f.write(LINE * n)
+            for name, words in (("panto run", [panto, "run"]), ("sed -u", ["sed", "-u", "s/x/y/"])):
+                seconds, peak, lines, status = run(words, path)
+                assert status == 0 and lines == n, (name, status, lines)
+                print(f"{name:10} {n:9} lines  {n / seconds:11,.0f} lines/s  peak {peak:7,} KiB")
+
+if __name__ == "__main__":
+    main()
