@@ -103,7 +103,7 @@ instantiate_weaken u t = subst_rename (instantiate (none ▹ u)) suc t ∙ subst
 pub subst_weaken : (s : ℕ → Term) (t : Term) → subst (lift s) (weaken t) ≡ weaken (subst s t)
 subst_weaken s t = subst_rename (lift s) suc t ∙ sym (rename_subst suc s t)
 
--- one argument instantiate in, under a substitution
+-- one argument put in, under a substitution
 pub subst_instantiate : (s : ℕ → Term) (u t : Term) → subst s (subst (instantiate (none ▹ u)) t) ≡ subst (instantiate (none ▹ subst s u)) (subst (lift s) t)
 subst_instantiate s u t = subst_subst s (instantiate (none ▹ u)) t ∙ ap (λ q. subst q t) (fun_ext go) ∙ sym (subst_subst (instantiate (none ▹ subst s u)) (lift s) t)
   where

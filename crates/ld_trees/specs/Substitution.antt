@@ -77,7 +77,7 @@ abbrev mutual
   shifts from by none = none
   shifts from by (us ▹ u) = shifts from by us ▹ shift from by u
 
--- under d binders the arguments instantiate in for the variables above them
+-- under d binders the arguments put in for the variables above them
 abbrev mutual
   pub subst_at : ℕ → Terms → Term → Term
   subst_at d vs (Srt s) = Srt s

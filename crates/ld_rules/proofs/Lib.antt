@@ -1,0 +1,12 @@
+pub mod ScopedTerms
+pub mod ScopedJudgements
+pub mod SubstitutionLemma
+pub mod Congruence
+pub mod Entries
+pub mod Validity
+pub mod Environments
+pub mod Lookup
+pub mod KnownConstants
+pub mod Removal
+pub mod RemovalOfLast
+pub mod Examples

@@ -1,0 +1,9 @@
+pub mod Environment
+pub mod Reduction
+pub mod Derivation
+pub mod Legality
+pub mod Scoping
+pub mod Extension
+pub mod Expansion
+pub mod Laws
+pub mod Examples
