@@ -1,3 +1,8 @@
 pub mod formers
+pub mod Names
 pub mod Views
 pub mod Items
+pub mod Places
+pub mod Nodes
+pub mod Sizes
+pub mod Entries

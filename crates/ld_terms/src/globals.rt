@@ -36,13 +36,13 @@ pub trait Globals<H> {
     ghost use Rattle.ld_terms.specs.declared.globals.Decl.{Decl};
     ghost use Rattle.ld_terms.specs.Items.{item_named};
 
-    /// The items in order.
+    /// The items, the one added last first.
     ghost items: { Self → Listed (Item H) };
 
     /// The metavariables by their numbers.
     ghost metas: { Self → Listed (Decl H) };
 
-    /// The first item of that name, or `None` exactly where there is none.
+    /// The item of that name, the last one where there are several, or `None` exactly where there is none.
     fn constant(&self, name: &Name) -> Option<&Item<H>>
         ensures { option_copied result ≡ item_named (items self.now) name.now };
 

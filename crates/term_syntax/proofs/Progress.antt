@@ -104,6 +104,7 @@ taken {A = A} f i a j some e = omega (arith, ahead_shorter i.ahead some, ap (λ 
 label_by_shorter : (t : Kind) (i : Input) (a : Label) (j : Input) → kind i ≡ t → label_by t i ≡ Ok (a, j) → left j < left i
 label_by_shorter k.Name i a j is e = taken label.Plain i a j (λ h. cc) e
 label_by_shorter k.Level i a j is e = taken (λ t. label.Level (level_of t)) i a j (λ h. cc) e
+label_by_shorter k.Call i a j is e = cc e
 label_by_shorter _ i a j is e = cc
 
 pub label_shorter : Shorter label_at

@@ -55,6 +55,7 @@ label_by_sound k.Level i x j is e =
     let got = takes i k.Level (λ h. cc) is in
     let same = ok_inj (label.Level (level_of (spelling i)), next i) (x, j) e in
     (got.0, got.1.ahead ∙ ap (λ (p : Label × Input). got.0 ∷ p.1.ahead) same, subst (λ y. IsLabel got.0 y) (ap (λ t. label.Level (level_of t)) (sym got.1.text) ∙ ap (λ (p : Label × Input). p.0) same) (grammar.level got.1.kind), got.1.at)
+label_by_sound k.Call i x j is e = cc e
 label_by_sound _ i x j is e = cc
 
 pub label_sound : (i : Input) (x : Label) (j : Input) → label_at i ≡ Ok (x, j) → (l : Lexeme) × (i.ahead ≡ l ∷ j.ahead) × IsLabel l x × (place i ≡ l.at)

@@ -1,15 +1,16 @@
 -- Reading a whole text, against the grammar.
-use Rattle.std.proofs.Common.{◌≡◌, Bool, true, false, if◌then◌else◌, List, [], ◌∷◌, Result, Ok, Err, refl, ap, sym, ◌∙◌, subst, IfOk}
+use Rattle.std.proofs.Common.{◌≡◌, ℕ, min, length, Bool, true, false, if◌then◌else◌, List, [], ◌∷◌, Result, Ok, Err, refl, ap, sym, ◌∙◌, subst, IfOk}
 use Rattle.term_syntax.specs.declared.surface.Surface.{Surface}
 use Rattle.term_syntax.specs.declared.fault.ReadFault.{ReadFault}
 use Rattle.term_syntax.specs.declared.fault.ReadFault.TheVariants as fault
 use Rattle.term_syntax.specs.Lex.{Text, Lexeme, lexemes}
 use Rattle.term_syntax.specs.Input.{Input, input_at, is_nil}
-use Rattle.term_syntax.specs.Reading.{Outcome, and_then, at_end, pure, refuse, ◌>>=◌, term, finish, read, IsRead, Gives}
-use Rattle.term_syntax.specs.Grammar.{IsTerm, IsText, IsRight}
+use Rattle.term_syntax.specs.Reading.{Outcome, and_then, at_end, pure, refuse, ◌>>=◌, term, finish, read, read_at, IsRead, Gives}
+use Rattle.term_syntax.specs.Grammar.{IsTerm, IsText, IsTermAt, IsRight}
+use Rattle.term_syntax.specs.Laws.{shown, ReadingIsSound, ReadingIsComplete, TreesAreUnique}
 use Rattle.term_syntax.proofs.Progress.{bind_ok, ok_inj}
 use Rattle.term_syntax.proofs.Sound.{term_sound}
-use Rattle.term_syntax.proofs.Complete.{term_runs, ends}
+use Rattle.term_syntax.proofs.Complete.{term_runs, ends, one_tree}
 
 nil_is : (ls : List Lexeme) → is_nil ls ≡ true → ls ≡ []
 nil_is [] e = refl
@@ -40,6 +41,15 @@ pub found : (text : Text) (r : Result Surface ReadFault) → Gives (λ t _. t) (
 found text (Ok t) h = let x = gives_ok (read text) t h in read_sound text t x.0 x.1
 found text (Err e) h = tt
 
+at_ok : (text : Text) (at : ℕ) (o : Outcome Surface) (p : Surface × ℕ) → o ≡ term 512 (input_at text (min at (length text))) → IsRead (λ t i. (t, i.at)) o p → IsTermAt text at p.0
+at_ok text at (Ok q) p is e = (q.1.ahead, subst (λ (p : Surface × ℕ). IsTerm 512 (input_at text (min at (length text))).ahead p.0 q.1.ahead) (sym e) ((term_sound 512).run (input_at text (min at (length text))) q.0 q.1 (sym is)))
+at_ok text at (Err e) p is h = absurd h
+
+pub found_at : (text : Text) (at : ℕ) (r : Result (Surface × ℕ) ReadFault) → Gives (λ t i. (t, i.at)) (read_at text at) r → IfOk r (λ p. IsTermAt text at p.0)
+unfolding read_at
+found_at text at (Ok p) h = at_ok text at (term 512 (input_at text (min at (length text)))) p refl h
+found_at text at (Err e) h = tt
+
 pub only : (text : Text) (r : Result Surface ReadFault) → Gives (λ t _. t) (read text) r → (t : Surface) → IsText text t → IsRight r (λ u. t ≡ u)
 only text (Ok u) h t is =
     let x = gives_ok (read text) u h in
@@ -47,3 +57,17 @@ only text (Ok u) h t is =
     ap (λ (p : Surface × Input). p.0) (ok_inj (t, y.0) (u, x.0) (sym y.1 ∙ x.1))
 only text (Err fault.Memory) h t is = tt
 only text (Err (fault.Syntax at)) h t is = let y = read_complete text t is in cc (sym y.1 ∙ h.1)
+
+-- an answer that is shown
+shown_ok : (o : Outcome Surface) (t : Surface) → shown o ≡ Ok t → (j : Input) × (o ≡ Ok (t, j))
+shown_ok (Ok p) t e = let h : p.0 ≡ t = cc e in (p.1, ap (λ (u : Surface). Ok (u, p.1)) h)
+shown_ok (Err i) t e = cc e
+
+pub reading_is_sound : ReadingIsSound
+reading_is_sound text t e = let x = shown_ok (read text) t e in read_sound text t x.0 x.1
+
+pub reading_is_complete : ReadingIsComplete
+reading_is_complete text t h = let x = read_complete text t h in ap shown x.1
+
+pub trees_are_unique : TreesAreUnique
+trees_are_unique text t u h g = one_tree h g

@@ -5,14 +5,17 @@ use Rattle.term_syntax.specs.declared.kind.Kind.{Kind}
 use Rattle.term_syntax.specs.declared.kind.Kind.TheVariants.{End, Open, Colon, Name, Level}
 use Rattle.term_syntax.specs.Lex.{Text, Lexeme, lexemes, Cut}
 
+-- the kind of the first token
 abbrev pub kind_of : List Lexeme → Kind
 kind_of [] = End
 kind_of (l ∷ ls) = l.kind
 
+-- the bytes of the first token
 abbrev pub spelling_of : List Lexeme → Text
 spelling_of [] = []
 spelling_of (l ∷ ls) = l.text
 
+-- the tokens behind the first
 abbrev pub tail_of : List Lexeme → List Lexeme
 tail_of [] = []
 tail_of (l ∷ ls) = ls
@@ -22,6 +25,7 @@ abbrev pub place_of : ℕ → List Lexeme → ℕ
 place_of end [] = end
 place_of end (l ∷ ls) = l.at
 
+-- whether no token is left
 abbrev pub is_nil : List Lexeme → Bool
 is_nil [] = true
 is_nil (l ∷ ls) = false
@@ -37,13 +41,16 @@ pub record IsNext (text : Text) (from start : ℕ) (cut : Cut) : Type 0 where
   pub place : start ≡ place_of (length text) (lexemes start (drop start text))
   pub over : (start == length text) ≡ is_nil (lexemes start (drop start text))
 
+-- what is left of a text
 pub record Input : Type 0 where
   -- the place directly after the last token that was taken
   pub at : ℕ
   -- the length of the text
   pub end : ℕ
+  -- the tokens that are left
   pub ahead : List Lexeme
 
+-- the kind of the next token, its bytes and its place
 abbrev pub kind : Input → Kind
 kind i = kind_of i.ahead
 
@@ -57,6 +64,7 @@ place i = place_of i.end i.ahead
 abbrev pub next : Input → Input
 next i = record { at = place i + length (spelling i); end = i.end; ahead = tail_of i.ahead }
 
+-- a text from a place on
 abbrev pub input_at : Text → ℕ → Input
 input_at text at = record { at = at; end = length text; ahead = lexemes at (drop at text) }
 

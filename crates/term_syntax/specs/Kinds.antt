@@ -1,3 +1,4 @@
+-- The test whether two kinds of tokens are the same.
 use Rattle.std.specs.Prelude.{Bool}
 use denote.Enum.Bare.{sameb}
 use Rattle.term_syntax.specs.contracts.kind.Kind.{the_type}

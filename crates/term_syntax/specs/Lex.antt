@@ -1,22 +1,30 @@
--- The tokens of a text. Blanks separate them. A byte that begins no token, and a name that is too long, are tokens of the kind Bad.
+-- The tokens of a text.
+--
+-- They are `*`, `_`, `?`, `(`, `)`, `,`, `:`, `;`, `->`, `=>`, `:=`, names, level names and the reserved names `fun`, `def`, `prim`.
+-- Blanks separate them. The longest token wins. A byte that begins no token is a token of the kind Bad, and so is the first byte of
+-- a name or level name that is too long.
 use Rattle.std.specs.Prelude.{ℕ, zero, suc, ◌+◌, ◌-◌, Bool, ◌&&◌, ◌||◌, if◌then◌else◌, ◌==◌, nat_le, nat_lt, List, [], ◌∷◌, take, drop, slice_index, codes}
 use Rattle.std.specs.List.{prefix_len}
 use Rattle.std.specs.Str.{bytes_eq}
 use Rattle.term_syntax.specs.declared.kind.Kind.{Kind}
 use Rattle.term_syntax.specs.declared.kind.Kind.TheVariants.{Bad, Star, Wild, Asked, Open, Close, Comma, Colon, Semi, Arrow, FatArrow, Assign, Name, Call, Level, Fun, Def, Prim}
 
+-- the bytes of a text
 abbrev pub Text : Type 0
 Text = List ℕ
 
+-- space, tab, carriage return, line feed
 abbrev pub is_blank : ℕ → Bool
 is_blank b = b == 32 || b == 9 || b == 13 || b == 10
 
+-- an ASCII letter
 abbrev pub is_letter : ℕ → Bool
 is_letter b = (nat_le 65 b && nat_le b 90) || (nat_le 97 b && nat_le b 122)
 
 abbrev pub is_digit : ℕ → Bool
 is_digit b = nat_le 48 b && nat_le b 57
 
+-- a letter, a digit or `_`: what a name goes on with
 abbrev pub is_tail : ℕ → Bool
 is_tail b = is_letter b || is_digit b || b == 95
 
@@ -24,7 +32,7 @@ is_tail b = is_letter b || is_digit b || b == 95
 abbrev pub Cut : Type 0
 Cut = Kind × ℕ
 
--- the kind of a name, by the byte after it
+-- The kind of a name: it is reserved, or a constant's where `(` follows directly, or a plain one.
 abbrev pub word_kind : Text → ℕ → Kind
 word_kind word next =
     if bytes_eq word (codes "fun") then Fun
@@ -32,6 +40,7 @@ word_kind word next =
     else (if bytes_eq word (codes "prim") then Prim
     else (if next == 40 then Call else Name)))
 
+-- a name of at most 64 bytes
 abbrev pub word : Text → Cut
 word z =
     let end = prefix_len is_tail z in
@@ -44,9 +53,11 @@ level z =
     if slice_index z 1 == 48 then (Level, 2)
     else (if end == 1 || nat_lt 10 end then (Bad, 1) else (Level, end))
 
+-- two bytes where the second is the wanted one, else what the first is alone
 abbrev pub by_second : ℕ → ℕ → Kind → Cut → Cut
 by_second next wanted long short = if next == wanted then (long, 2) else short
 
+-- the token that is no name and no level name, by its first byte and the next
 abbrev pub punctuation : ℕ → ℕ → Cut
 punctuation b next =
     if b == 42 then (Star, 1)
@@ -73,6 +84,7 @@ pub record Lexeme : Type 0 where
   pub at : ℕ
   pub text : Text
 
+-- the token at the front of a text that begins at a place
 abbrev pub lexeme : ℕ → Text → Lexeme
 lexeme at z = record { kind = (token z).0; at = at; text = take (token z).1 z }
 
@@ -84,5 +96,6 @@ lexemes_from zero at (b ∷ z) =
     if is_blank b then lexemes_from zero (at + 1) z
     else lexeme at (b ∷ z) ∷ lexemes_from ((token (b ∷ z)).1 - 1) (at + 1) z
 
+-- the tokens of a text that begins at a place
 unfoldable pub lexemes : ℕ → Text → List Lexeme
 lexemes at z = lexemes_from zero at z

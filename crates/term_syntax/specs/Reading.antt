@@ -1,4 +1,7 @@
--- Reading a term from left to right, at most so deep, with the place at which it is refused.
+-- The reading of a term from left to right: its tree, or the place at which it is refused.
+--
+-- Each definition follows one line of the grammar in Grammar.antt and takes a token wherever one continues what was taken before, so
+-- that a refusal stands at the first token that doesn't. The laws in Laws.antt say that the trees are those of the grammar.
 use Rattle.std.specs.Prelude.{◌≡◌, ℕ, zero, suc, ◌+◌, ◌-◌, ◌*◌, ◌^◌, min, Bool, true, false, if◌then◌else◌, List, [], ◌∷◌, ◌++◌, length, drop, fold, Some, None, Result, Ok, Err}
 use Rattle.term_syntax.specs.declared.surface.Label.{Label}
 use Rattle.term_syntax.specs.declared.surface.Label.TheVariants as label
@@ -20,6 +23,7 @@ Outcome A = Result (A × Input) Input
 abbrev pub Parser : Type 0 → Type 0
 Parser A = Input → Outcome A
 
+-- on from an answer, or the refusal
 abbrev pub and_then : {A B : Type 0} → Outcome A → (A → Parser B) → Outcome B
 and_then (Ok p) f = f p.0 p.1
 and_then (Err e) f = Err e
@@ -32,48 +36,61 @@ infixl 10 ◌>>◌
 abbrev pub ◌>>◌ : {A B : Type 0} → Parser A → Parser B → Parser B
 p >> q = p >>= (λ _. q)
 
+-- an answer that takes nothing
 abbrev pub pure : {A : Type 0} → A → Parser A
 pure a = λ i. Ok (a, i)
 
+-- a refusal at the next token
 abbrev pub refuse : {A : Type 0} → Parser A
 refuse = λ i. Err i
 
+-- the place of the next token
 abbrev pub here : Parser ℕ
 here = λ i. Ok (place i, i)
 
+-- whether no token is left
 abbrev pub at_end : Parser Bool
 at_end = λ i. Ok (is_nil i.ahead, i)
 
+-- the kind of the next token, which is left there
 abbrev pub peek : Parser Kind
 peek = λ i. Ok (kind i, i)
 
+-- whether the next token is of this kind
 abbrev pub sees : Kind → Input → Bool
 sees k i = is_kind (kind i) k
 
+-- takes a token of this kind, and refuses any other
 unfoldable pub expect : Kind → Parser (Unit {0})
 expect k = λ i. if sees k i then Ok (tt, next i) else Err i
 
+-- takes a token of this kind where one is next, and says whether
 unfoldable pub eat : Kind → Parser Bool
 eat k = λ i. if sees k i then Ok (true, next i) else Ok (false, i)
 
+-- the bytes of the next token, which is taken
 abbrev pub take_token : Parser Text
 take_token = λ i. Ok (spelling i, next i)
 
+-- a node of a tree, with its place
 abbrev pub node : ℕ → Shape → Surface
 node at s = record { at = at; shape = s }
 
--- the number of a level name
+-- The number of a level name. It has at most 9 digits, so the bound by 32 bits is never met.
 unfoldable pub level_of : Text → ℕ
 level_of text = fold (λ n b. min (10 * n + (b - 48)) (2 ^ 32 - 1)) 0 (drop 1 text)
 
+-- name | level, by the kind of the next token. Where `(` follows a name directly, the name is fine and the `(` isn't.
 abbrev pub label_by : Kind → Parser Label
 label_by Name = take_token >>= (λ t. pure (label.Plain t))
 label_by Level = take_token >>= (λ t. pure (label.Level (level_of t)))
+label_by Call = take_token >> refuse
 label_by _ = refuse
 
 unfoldable pub label_at : Parser Label
 label_at = λ i. label_by (kind i) i
 
+-- whether an atom begins with a token of this kind
 abbrev pub begins_atom : Kind → Bool
 begins_atom Star = true
 begins_atom Wild = true
@@ -89,8 +106,9 @@ unfoldable pub applied : ℕ → Surface → List Surface → Surface
 applied at head [] = head
 applied at head (x ∷ xs) = node at (shape.App head (x ∷ xs))
 
--- The terms inside are read by `inner`. What does not read it stands above.
+-- The terms inside are read by `inner`.
 module _ (inner : Parser Surface) where
+  -- "(" ( name | level ) ":" term ")"
   unfoldable pub binder : Parser (Label × Surface)
   binder = do
     expect Open
@@ -100,7 +118,7 @@ module _ (inner : Parser Surface) where
     expect Close
     pure (name, ty)
 
-  -- The number bounds the turns, and each turn takes a token.
+  -- term { "," term } ")", behind the arguments that were found. The number bounds the turns, and each turn takes a token.
   unfoldable pub arguments_from : ℕ → List Surface → Parser (List Surface)
   arguments_from zero found = refuse
   arguments_from (suc n) found = do
@@ -108,12 +126,13 @@ module _ (inner : Parser Surface) where
     more ← eat Comma
     if more then arguments_from n (found ++ x ∷ []) else expect Close >> pure (found ++ x ∷ [])
 
-  -- behind the parenthesis
+  -- [ term { "," term } ] ")"
   unfoldable pub arguments : Parser (List Surface)
   arguments = do
     none ← eat Close
     if none then pure [] else (λ i. arguments_from (suc (length i.ahead)) [] i)
 
+  -- name directly followed by "(" [ term { "," term } ] ")"
   unfoldable pub constant : Parser Surface
   constant = do
     at ← here
@@ -122,6 +141,7 @@ module _ (inner : Parser Surface) where
     found ← arguments
     pure (node at (shape.Const name found))
 
+  -- "(" term ")"
   unfoldable pub parenthesized : Parser Surface
   parenthesized = do
     expect Open
@@ -129,6 +149,7 @@ module _ (inner : Parser Surface) where
     expect Close
     pure t
 
+  -- an atom at a place, by the kind of the next token
   abbrev pub atom_by : ℕ → Kind → Parser Surface
   atom_by at Star = take_token >> pure (node at shape.Star)
   atom_by at Wild = take_token >> pure (node at shape.Wild)
@@ -142,7 +163,7 @@ module _ (inner : Parser Surface) where
   unfoldable pub atom : Parser Surface
   atom = λ i. atom_by (place i) (kind i) i
 
-  -- the atoms that follow
+  -- { atom }, behind the atoms that were found. The number bounds the turns, and each turn takes a token.
   unfoldable pub atoms_from : ℕ → List Surface → Parser (List Surface)
   atoms_from zero found = pure found
   atoms_from (suc n) found = do
@@ -152,6 +173,7 @@ module _ (inner : Parser Surface) where
   unfoldable pub atoms : Parser (List Surface)
   atoms = λ i. atoms_from (suc (length i.ahead)) [] i
 
+  -- app = atom { atom }
   unfoldable pub app : Parser Surface
   app = do
     at ← here
@@ -159,6 +181,7 @@ module _ (inner : Parser Surface) where
     others ← atoms
     pure (applied at head others)
 
+  -- "fun" binder "=>" term
   unfoldable pub abstraction : Parser Surface
   abstraction = do
     at ← here
@@ -168,6 +191,7 @@ module _ (inner : Parser Surface) where
     body ← inner
     pure (node at (shape.Lam b.0 b.1 body))
 
+  -- binder "->" term
   unfoldable pub product : Parser Surface
   product = do
     at ← here
@@ -176,6 +200,7 @@ module _ (inner : Parser Surface) where
     body ← inner
     pure (node at (shape.Pi (Some b.0) b.1 body))
 
+  -- app [ "->" term ]
   unfoldable pub arrows : Parser Surface
   arrows = do
     at ← here
@@ -183,26 +208,20 @@ module _ (inner : Parser Surface) where
     goes_on ← eat Arrow
     if goes_on then (do right ← inner; pure (node at (shape.Pi None left right))) else pure left
 
+  -- term
   unfoldable pub whole : Parser Surface
   whole = λ i. if sees Fun i then abstraction i else (if begins_binder i.ahead then product i else arrows i)
 
--- A term that stands inside so many others at most. The next token is refused at 0.
+-- A term in which so many terms may stand inside one another, it counted. At 0 it is refused at its first token.
 unfoldable pub term : ℕ → Parser Surface
 term zero = refuse
 term (suc depth) = whole (term depth)
 
--- all of the text, nested to 512
-
--- ---- what a function that reads ensures: the outcome, unless memory runs out
-
-abbrev pub Reads : {A : Type 0} → Outcome A → Result A ReadFault → Input → Type 0
-Reads outcome (Ok a) new = outcome ≡ Ok (a, new)
-Reads outcome (Err Memory) new = Unit {0}
-Reads outcome (Err (Syntax at)) new = (outcome ≡ Err new) × (at ≡ place new)
-
+-- how many terms may stand inside one another, the outermost counted
 abbrev pub max_nesting : ℕ
 max_nesting = 512
 
+-- a term, and then the end of the text
 unfoldable pub finish : Parser Surface
 finish = do
   t ← term max_nesting
@@ -217,7 +236,14 @@ read text = finish (input_at text 0)
 unfoldable pub read_at : Text → ℕ → Outcome Surface
 read_at text at = term max_nesting (input_at text (min at (length text)))
 
--- what a function that reads a whole text ensures
+-- ---- what a function that reads ensures: the outcome, unless memory runs out
+
+abbrev pub Reads : {A : Type 0} → Outcome A → Result A ReadFault → Input → Type 0
+Reads outcome (Ok a) new = outcome ≡ Ok (a, new)
+Reads outcome (Err Memory) new = Unit {0}
+Reads outcome (Err (Syntax at)) new = (outcome ≡ Err new) × (at ≡ place new)
+
+-- what a function that reads a whole text ensures: what `show` makes of the answer, or the place of the refusal, unless memory runs out
 abbrev pub IsRead : {A B : Type 0} → (A → Input → B) → Outcome A → B → Type 0
 IsRead show (Ok p) b = b ≡ show p.0 p.1
 IsRead show (Err e) b = ⊥

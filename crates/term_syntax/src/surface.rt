@@ -1,19 +1,25 @@
+//! The trees that texts stand for.
+
 use ld_terms::{Boxed, List, Name};
 
-/// How a text calls a variable: by a plain name, or by its level, written `%k`.
+/// How a text calls a variable.
 #[derive(Debug, Drop)]
 pub enum Label {
+    /// A name.
     Plain(Name),
+    /// A level name `%k`. A level has at most 9 digits.
     Level(u32),
 }
 
 /// A tree of the grammar of terms, before its names are resolved.
 ///
-/// `at` is the place of the node's first byte in the text, inside the parentheses round the whole node.
+/// Contracts see it as plain data, a tree by its value.
 #[cycle(tree)]
 #[derive(Debug, Drop)]
 pub struct Surface {
+    /// The place of the node's first token, counted in bytes from the text's start, inside the parentheses round the whole node.
     pub at: u64,
+    /// What stands there.
     pub shape: Shape,
 }
 

@@ -1,0 +1,41 @@
+//! The outside as traits: where bytes come from and go to, with counts of faults. A reader of lines
+//! stands over any source, and `put_all` writes a whole piece into any sink.
+//!
+//! A source, a sink or a shelf may tell the bytes that it has left or took, as those in memory do.
+//! Then the contracts speak of the bytes; the adapters of the system tell nothing.
+#![tactic(auto)]
+
+mod chunk;
+mod cut;
+mod draft;
+mod fault_count;
+mod folder;
+mod input;
+mod lines;
+mod memory_shelf;
+mod memory_sink;
+mod memory_source;
+mod put;
+mod shelf;
+mod sink;
+mod source;
+mod standard;
+mod sure;
+mod system;
+mod taken;
+mod worked;
+
+pub use folder::Folder;
+pub use input::MAX_BYTES;
+pub use lines::{Lines, MAX_LINE};
+pub use memory_shelf::{Book, MemoryShelf};
+pub use memory_sink::MemorySink;
+pub use memory_source::MemorySource;
+pub use put::put_all;
+pub use shelf::Shelf;
+pub use sink::Sink;
+pub use source::{Failed, Source};
+pub use standard::{StdErr, StdIn, StdOut};
+pub use sure::{SureSink, SureSource};
+pub use taken::{Stop, Taken};
+pub use worked::worked_lines;

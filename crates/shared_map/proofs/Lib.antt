@@ -1,0 +1,5 @@
+pub mod Around
+pub mod Cuts
+pub mod Edits
+pub mod Parts
+pub mod Tables

@@ -1,0 +1,5 @@
+pub mod Blocks
+pub mod Search
+pub mod Grown
+pub mod Top
+pub mod Table

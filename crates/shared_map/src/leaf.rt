@@ -1,0 +1,183 @@
+ghost use Rattle.std.specs.Prelude.{◌≡◌, ◌++◌, ◌∷◌, [], ◌+◌, ◌<◌, ◌≤◌, IfOk, OnOk, map, length, take, drop, option_copied, T};
+ghost use Rattle.std.specs.FinMap.{find, put, is_sorted};
+ghost use Rattle.shared_map.specs.Blocks.{IsExact, IsLeaf};
+ghost use Rattle.shared_map.specs.Search.{IsPlace, cmp_first};
+ghost use Rattle.shared_map.specs.Grown.{parts_of, AreBlocks};
+
+use crate::part::{Grown, Part};
+use std::alloc::{AllocError, Global};
+use std::cmp::Ordering;
+use std::marker::Model;
+
+/// How many entries a leaf has at most.
+const MOST: usize = 64;
+
+/// The lowest level of a map: from 1 to 64 entries, in the order of their keys.
+#[derive(Drop)]
+pub struct Leaf<K: Ord, V> {
+    entries: Vec<(K, V)>,
+}
+
+impl<K: Ord, V> Model for Leaf<K, V> {
+    ghost use Rattle.std.specs.Prelude.{List};
+    ghost use Rattle.shared_map.specs.Blocks.{IsLeaf};
+
+    ghost Value = { List (K × V) };
+
+    ghost view = { λ l. l.entries.items };
+
+    ghost invariant = { λ l. IsLeaf K.cmp l.entries.items };
+}
+
+impl<K: Ord + Drop, V: Drop> Leaf<K, V> {
+    /// A leaf with one entry.
+    pub fn one(alloc: Global, key: K, value: V) -> Result<Leaf<K, V>, AllocError>
+        ensures { IfOk result (λ l. l ≡ (key, value) ∷ []) }
+    {
+        let mut entries = Vec::with_capacity(alloc, 1)?;
+        entries.push((key, value))?;
+        Ok(Leaf { entries })
+    }
+}
+
+impl<K: Ord + Clone, V: Clone> Part<K, V> for Leaf<K, V> {
+    ghost entries = { λ l. l };
+
+    fn compare(&self, key: &K) -> Ordering {
+        key.cmp(&self.entries[0].0)
+    }
+
+    fn get(&self, key: &K) -> Option<&V> {
+        value_of(&self.entries, key)
+    }
+
+    fn with(&self, alloc: Global, key: K, value: V) -> Result<Grown<Leaf<K, V>>, AllocError> {
+        let cut = cut_for(&self.entries, &key);
+        let entries = with_key(alloc, &self.entries, key, value)?;
+        leaves_of(entries, cut)
+    }
+}
+
+/// The value at a key.
+fn value_of<'a, K: Ord, V>(entries: &'a [(K, V)], key: &K) -> Option<&'a V>
+    requires sorted { T (is_sorted K.cmp entries.now) }
+    requires some { 0 < length entries.now }
+    ensures { option_copied result ≡ find K.cmp key.now entries.now }
+{
+    let at = place_of(entries, key);
+    let entry = &entries[at];
+    match key.cmp(&entry.0) {
+        Ordering::Equal => Some(&entry.1),
+        _ => None,
+    }
+}
+
+/// Where a leaf that gets a 65th entry is cut: before that entry if it is the last, so that keys that come in rising
+/// order make full leaves, and else in the middle.
+fn cut_for<K: Ord, V>(entries: &[(K, V)], key: &K) -> usize
+    requires { 0 < length entries.now }
+    ensures late { 32 ≤ result }
+    ensures early { result ≤ 64 }
+{
+    match key.cmp(&entries[entries.len() - 1].0) {
+        Ordering::Greater => MOST,
+        _ => MOST / 2,
+    }
+}
+
+/// The entries with this value at the key.
+fn with_key<K: Ord + Clone, V: Clone>(
+    alloc: Global,
+    entries: &[(K, V)],
+    key: K,
+    value: V,
+) -> Result<Vec<(K, V)>, AllocError>
+    requires keys { IsExact K.is_clone }
+    requires values { IsExact V.is_clone }
+    requires sorted { T (is_sorted K.cmp entries.now) }
+    requires some { 0 < length entries.now }
+    requires few { length entries.now ≤ 64 }
+    ensures { IfOk result (λ v. v.items ≡ put K.cmp key value entries.now) }
+{
+    let at = place_of(entries, &key);
+    let entry = &entries[at];
+    match key.cmp(&entry.0) {
+        Ordering::Less => put_in(alloc, entries, at, at, key, value),
+        Ordering::Equal => {
+            let key = entry.0.clone()?;
+            put_in(alloc, entries, at, at + 1, key, value)
+        }
+        Ordering::Greater => put_in(alloc, entries, at + 1, at + 1, key, value),
+    }
+}
+
+/// The index of the last entry whose key isn't above this one, or else of the first.
+fn place_of<K: Ord, V>(entries: &[(K, V)], key: &K) -> usize
+    requires { 0 < length entries.now }
+    ensures { IsPlace (λ e. K.cmp key.now e.0) entries.now result }
+{
+    let mut low = 0;
+    let mut high = entries.len();
+    while high - low > 1 {
+        let middle = low + (high - low) / 2;
+        match key.cmp(&entries[middle].0) {
+            Ordering::Less => high = middle,
+            _ => low = middle,
+        }
+    }
+    low
+}
+
+/// The entries, with one in the place of those from `at` to `end`.
+fn put_in<K: Clone, V: Clone>(
+    alloc: Global,
+    entries: &[(K, V)],
+    at: usize,
+    end: usize,
+    key: K,
+    value: V,
+) -> Result<Vec<(K, V)>, AllocError>
+    requires keys { IsExact K.is_clone }
+    requires values { IsExact V.is_clone }
+    requires few { length entries.now ≤ 64 }
+    requires before { at ≤ end }
+    requires after { end ≤ length entries.now }
+    ensures { IfOk result (λ v. v.items ≡ take at entries.now ++ (key, value) ∷ drop end entries.now) }
+{
+    let mut made = Vec::with_capacity(alloc, at + 1 + (entries.len() - end))?;
+    copy(&mut made, &entries[..at])?;
+    made.push((key, value))?;
+    copy(&mut made, &entries[end..])?;
+    Ok(made)
+}
+
+/// Copies entries.
+fn copy<K: Clone, V: Clone>(into: &mut Vec<(K, V)>, from: &[(K, V)]) -> Result<(), AllocError>
+    requires keys { IsExact K.is_clone }
+    requires values { IsExact V.is_clone }
+    ensures { OnOk result (into.new.items ≡ into.old.items ++ from.now) }
+{
+    for (key, value) in from {
+        into.push((key.clone()?, value.clone()?))?;
+    }
+    Ok(())
+}
+
+/// One leaf with these entries, or two where they are too many for one.
+fn leaves_of<K: Ord + Drop, V: Drop>(
+    mut entries: Vec<(K, V)>,
+    cut: usize,
+) -> Result<Grown<Leaf<K, V>>, AllocError>
+    requires sorted { T (is_sorted K.cmp entries.items) }
+    requires some { 0 < length entries.items }
+    requires few { length entries.items ≤ 65 }
+    requires cut_early { cut ≤ 64 }
+    requires cut_late { 32 ≤ cut }
+    ensures { IfOk result (λ g. AreBlocks entries.items (parts_of g)) }
+{
+    if entries.len() <= MOST {
+        return Ok(Grown::One(Leaf { entries }));
+    }
+    let rest = entries.split_off(cut)?;
+    Ok(Grown::Two(Leaf { entries }, Leaf { entries: rest }))
+}

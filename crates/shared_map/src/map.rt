@@ -1,0 +1,165 @@
+ghost use Rattle.std.specs.Prelude.{◌≡◌, ◌≢◌, ◌++◌, ◌∷◌, [], ◌+◌, ◌<◌, ◌≤◌, IfOk, IsTrue, map, length, option_copied, cond, Some, T};
+ghost use Rattle.std.specs.Arc.{arc_value};
+ghost use Rattle.std.specs.FinMap.{find, put, is_sorted};
+ghost use Rattle.std.specs.declared.cmp.Ordering.TheVariants.{Equal};
+ghost use Rattle.shared_map.specs.Blocks.{IsExact, joined, NoneEmpty};
+ghost use Rattle.shared_map.specs.Grown.{AreBlocks};
+ghost use Rattle.shared_map.specs.Top.{nodes_in};
+
+use crate::node::Node;
+use crate::part::{place_of, share, value_of, with_key};
+use std::alloc::{AllocError, Global};
+use std::marker::Model;
+use std::sync::Arc;
+
+/// A finite map from keys to values that never changes. `with` answers a further map, which shares almost all of its
+/// memory with this one.
+///
+/// In contracts it is the list of its entries in the order of their keys, each key once. All its calls read through
+/// `&self` and nothing in it can be written, so threads may read one map, and make further maps from it, at once.
+/// Where keys and values are `Send` and `Sync`, so is the map.
+#[derive(Drop)]
+pub struct SharedMap<K: Ord, V> {
+    // None only in a map without entries, which needs no allocator
+    nodes: Option<Vec<Arc<Node<K, V>>>>,
+    count: u64,
+}
+
+impl<K: Ord, V> Model for SharedMap<K, V> {
+    ghost use Rattle.std.specs.Prelude.{List, map};
+    ghost use Rattle.std.specs.Arc.{arc_value};
+    ghost use Rattle.shared_map.specs.Blocks.{IsMap, joined};
+    ghost use Rattle.shared_map.specs.Top.{nodes_in};
+
+    ghost Value = { List (K × V) };
+
+    ghost view = { λ m. joined (map arc_value (nodes_in m.nodes)) };
+
+    ghost invariant = { λ m. IsMap K.cmp (map arc_value (nodes_in m.nodes)) m.count };
+}
+
+impl<K: Ord + Clone, V: Clone> SharedMap<K, V> {
+    /// The map without entries. It takes no memory.
+    pub fn new() -> SharedMap<K, V>
+        ensures { result ≡ [] }
+    {
+        SharedMap {
+            nodes: None,
+            count: 0,
+        }
+    }
+
+    /// The value at a key, or `None` where the map has no such key. It takes no memory.
+    pub fn get(&self, key: &K) -> Option<&V>
+        ensures { option_copied result ≡ find K.cmp key.now self.now }
+    {
+        value_of(nodes_of(&self.nodes), key)
+    }
+
+    /// How many keys have a value. It takes no memory.
+    pub fn len(&self) -> u64
+        ensures counted { result ≡ length self.now }
+        // The entries stand in the order of their keys, each key once, so there are as many keys as entries.
+        ensures in_order { IsTrue (is_sorted K.cmp self.now) }
+    {
+        self.count
+    }
+
+    /// The map in which `key` has `value`, and every other key what it has here. Where a key that compares equal to
+    /// `key` is in the map, that key stays and its value is replaced.
+    ///
+    /// This map stays as it was. A clone of a key or value must equal it, since one leaf's entries are cloned.
+    ///
+    /// # Errors
+    ///
+    /// `AllocError` where memory runs out.
+    pub fn with(&self, alloc: Global, key: K, value: V) -> Result<SharedMap<K, V>, AllocError>
+        requires keys { IsExact K.is_clone }
+        requires values { IsExact V.is_clone }
+        ensures changed { IfOk result (λ m. m ≡ put K.cmp key value self.now) }
+        ensures at_key { IfOk result (λ m. find K.cmp key m ≡ Some value) }
+        ensures elsewhere { IfOk result (λ m.
+            (q : K) → K.cmp q key ≢ Equal → find K.cmp q m ≡ find K.cmp q self.now) }
+        ensures in_order { IfOk result (λ m. IsTrue (is_sorted K.cmp m)) }
+    {
+        let count = counted(self.count, self.get(&key).is_some())?;
+        let nodes = nodes_with(alloc, nodes_of(&self.nodes), key, value)?;
+        Ok(SharedMap {
+            nodes: Some(nodes),
+            count,
+        })
+    }
+
+    /// The same map again, for a second owner. It copies the list of nodes and shares everything below it.
+    ///
+    /// # Errors
+    ///
+    /// `AllocError` where memory runs out.
+    pub fn fork(&self, alloc: Global) -> Result<SharedMap<K, V>, AllocError>
+        ensures { IfOk result (λ m. m ≡ self.now) }
+    {
+        let nodes = shared(alloc, nodes_of(&self.nodes))?;
+        Ok(SharedMap {
+            nodes: Some(nodes),
+            count: self.len(),
+        })
+    }
+}
+
+/// The list of nodes of a map.
+fn nodes_of<K: Ord, V>(nodes: &Option<Vec<Arc<Node<K, V>>>>) -> &[Arc<Node<K, V>>]
+    ensures { result.now ≡ nodes_in nodes.now }
+{
+    match nodes {
+        Some(nodes) => nodes,
+        None => &[],
+    }
+}
+
+/// How many entries there are after a value was put at a key that was there or wasn't. A count that doesn't fit stands
+/// for want of memory: so many entries can't be held.
+fn counted(count: u64, found: bool) -> Result<u64, AllocError>
+    ensures { IfOk result (λ n. n ≡ cond found count (count + 1)) }
+{
+    if found {
+        Ok(count)
+    } else {
+        count.checked_add(1).ok_or(AllocError)
+    }
+}
+
+/// The nodes with this value at the key.
+fn nodes_with<K: Ord + Clone, V: Clone>(
+    alloc: Global,
+    nodes: &[Arc<Node<K, V>>],
+    key: K,
+    value: V,
+) -> Result<Vec<Arc<Node<K, V>>>, AllocError>
+    requires keys { IsExact K.is_clone }
+    requires values { IsExact V.is_clone }
+    requires sorted { T (is_sorted K.cmp (joined (map arc_value nodes.now))) }
+    requires full { NoneEmpty (map arc_value nodes.now) }
+    ensures { IfOk result (λ v.
+        AreBlocks (put K.cmp key value (joined (map arc_value nodes.now))) (map arc_value v.items)) }
+{
+    if nodes.is_empty() {
+        let node = Node::one(alloc, key, value)?;
+        let mut made = Vec::with_capacity(alloc, 1)?;
+        made.push(Arc::new(alloc, node)?)?;
+        return Ok(made);
+    }
+    let at = place_of(nodes, &key);
+    with_key(alloc, nodes, at, key, value)
+}
+
+/// A second list of the same nodes.
+fn shared<K: Ord + Drop, V: Drop>(
+    alloc: Global,
+    nodes: &[Arc<Node<K, V>>],
+) -> Result<Vec<Arc<Node<K, V>>>, AllocError>
+    ensures { IfOk result (λ v. map arc_value v.items ≡ map arc_value nodes.now) }
+{
+    let mut made = Vec::with_capacity(alloc, nodes.len())?;
+    share(&mut made, nodes)?;
+    Ok(made)
+}

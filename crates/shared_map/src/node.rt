@@ -1,0 +1,98 @@
+ghost use Rattle.std.specs.Prelude.{◌≡◌, ◌++◌, ◌∷◌, [], ◌+◌, ◌<◌, ◌≤◌, IfOk, map, length, T};
+ghost use Rattle.std.specs.Arc.{arc_value};
+ghost use Rattle.std.specs.FinMap.{is_sorted};
+ghost use Rattle.shared_map.specs.Blocks.{joined, NoneEmpty};
+ghost use Rattle.shared_map.specs.Grown.{parts_of, AreBlocks};
+
+use crate::leaf::Leaf;
+use crate::part::{Grown, Part, place_of, value_of, with_key};
+use std::alloc::{AllocError, Global};
+use std::cmp::Ordering;
+use std::marker::Model;
+use std::sync::Arc;
+
+/// How many leaves a node has at most.
+const MOST: usize = 64;
+
+/// The middle level of a map: from 1 to 64 leaves, in the order of their keys.
+#[derive(Drop)]
+pub struct Node<K: Ord, V> {
+    leaves: Vec<Arc<Leaf<K, V>>>,
+}
+
+impl<K: Ord, V> Model for Node<K, V> {
+    ghost use Rattle.std.specs.Prelude.{List, map};
+    ghost use Rattle.std.specs.Arc.{arc_value};
+    ghost use Rattle.shared_map.specs.Blocks.{IsNode, joined};
+
+    ghost Value = { List (K × V) };
+
+    ghost view = { λ n. joined (map arc_value n.leaves.items) };
+
+    ghost invariant = { λ n. IsNode K.cmp (map arc_value n.leaves.items) };
+}
+
+impl<K: Ord + Drop, V: Drop> Node<K, V> {
+    /// A node with one leaf, which has one entry.
+    pub fn one(alloc: Global, key: K, value: V) -> Result<Node<K, V>, AllocError>
+        ensures { IfOk result (λ n. n ≡ (key, value) ∷ []) }
+    {
+        let leaf = Leaf::one(alloc, key, value)?;
+        let mut leaves = Vec::with_capacity(alloc, 1)?;
+        leaves.push(Arc::new(alloc, leaf)?)?;
+        Ok(Node { leaves })
+    }
+}
+
+impl<K: Ord + Clone, V: Clone> Part<K, V> for Node<K, V> {
+    ghost entries = { λ n. n };
+
+    fn compare(&self, key: &K) -> Ordering {
+        self.leaves[0].compare(key)
+    }
+
+    fn get(&self, key: &K) -> Option<&V> {
+        value_of(&self.leaves, key)
+    }
+
+    fn with(&self, alloc: Global, key: K, value: V) -> Result<Grown<Node<K, V>>, AllocError> {
+        let at = place_of(&self.leaves, &key);
+        let cut = cut_for(&self.leaves, at);
+        let leaves = with_key(alloc, &self.leaves, at, key, value)?;
+        nodes_of(leaves, cut)
+    }
+}
+
+/// Where a node that gets a 65th leaf is cut: before that leaf if it is the last, so that keys that come in rising
+/// order make full nodes, and else in the middle.
+fn cut_for<T>(leaves: &[Arc<T>], at: usize) -> usize
+    requires { at < length leaves.now }
+    ensures late { 32 ≤ result }
+    ensures early { result ≤ 64 }
+{
+    if at + 1 == leaves.len() {
+        MOST
+    } else {
+        MOST / 2
+    }
+}
+
+/// One node with these leaves, or two where they are too many for one.
+fn nodes_of<K: Ord + Drop, V: Drop>(
+    mut leaves: Vec<Arc<Leaf<K, V>>>,
+    cut: usize,
+) -> Result<Grown<Node<K, V>>, AllocError>
+    requires sorted { T (is_sorted K.cmp (joined (map arc_value leaves.items))) }
+    requires full { NoneEmpty (map arc_value leaves.items) }
+    requires some { 0 < length leaves.items }
+    requires few { length leaves.items ≤ 65 }
+    requires cut_early { cut ≤ 64 }
+    requires cut_late { 32 ≤ cut }
+    ensures { IfOk result (λ g. AreBlocks (joined (map arc_value leaves.items)) (parts_of g)) }
+{
+    if leaves.len() <= MOST {
+        return Ok(Grown::One(Node { leaves }));
+    }
+    let rest = leaves.split_off(cut)?;
+    Ok(Grown::Two(Node { leaves }, Node { leaves: rest }))
+}

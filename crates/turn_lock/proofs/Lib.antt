@@ -1,0 +1,11 @@
+pub mod Lists
+pub mod Extending
+pub mod Opening
+pub mod Staying
+pub mod Drawing
+pub mod Serving
+pub mod Working
+pub mod Seats
+pub mod Splitting
+pub mod Joining
+pub mod Closing

@@ -1,0 +1,6 @@
+use Rattle.std.proofs.Common.{arith}
+use Rattle.turn_lock.proofs.Joining.{compares}
+use Rattle.turn_lock.proofs.sharing.compare_views.Goals as goal
+
+pub load-requires : goal.load-requires
+load-requires g c = (c.requires.table.0, omega (arith, c.requires.table.1), rw c.requires.table.2 (compares _ _ _ _ _ _ c.requires.idle))
