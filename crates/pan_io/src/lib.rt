@@ -39,3 +39,6 @@ pub use standard::{StdErr, StdIn, StdOut};
 pub use sure::{SureSink, SureSource};
 pub use taken::{Stop, Taken};
 pub use worked::worked_lines;
+
+#[cfg(test)]
+mod tests;

@@ -1,12 +1,13 @@
 //! The standard streams of the process. They tell no bytes.
 
-ghost use Rattle.std.specs.Prelude.{◌≡◌, ◌≤◌, ◌-◌, ◌^◌, ℕ, None};
+ghost use Rattle.std.specs.Prelude.{◌≡◌, ◌≤◌, ◌-◌, ◌^◌, ℕ, None, IfOk};
 
 use crate::fault_count::FaultCount;
 use crate::sink::Sink;
 use crate::source::{Failed, Source};
 use crate::system::{flush_out, read_from, write_to};
-use std::io::{Stderr, Stdin, Stdout};
+use std::alloc::{AllocError, Global};
+use std::io::{BufWriter, Stderr, Stdin, Stdout};
 
 /// Standard input. Each call reads once, straight into the caller's buffer.
 #[derive(Drop)]
@@ -38,21 +39,25 @@ impl Source for StdIn {
     }
 }
 
-/// Standard output. Each call writes once.
+/// Standard output. What is put waits in a buffer of 8 KiB, until that is full or flushed.
 #[derive(Drop)]
 pub struct StdOut {
-    stream: Stdout,
+    stream: BufWriter<Stdout>,
     faults: FaultCount,
 }
 
 impl StdOut {
-    pub fn new(stream: Stdout) -> StdOut
-        ensures { result.faults.count ≡ 0 }
+    /// Takes all the memory that putting needs. Fails for want of memory alone.
+    pub fn new(alloc: Global, stream: Stdout) -> Result<StdOut, AllocError>
+        ensures { IfOk result (λ output. output.faults.count ≡ 0) }
     {
-        StdOut {
+        let Ok(stream) = BufWriter::new(alloc, stream) else {
+            return Err(AllocError);
+        };
+        Ok(StdOut {
             stream,
             faults: FaultCount::new(),
-        }
+        })
     }
 }
 

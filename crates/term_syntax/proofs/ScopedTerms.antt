@@ -109,8 +109,8 @@ module _ (arity : Arities) (names : Names) (known : (a : Text) (n : ℕ) → ari
   arguments_good (m ∷ ms) bound us vs good e =
       arguments_by (scope arity names m.0 bound) _ bound vs (λ vs. AreGood bound vs × (count vs ≡ count us + suc (length ms))) (m.1 bound)
       (λ u u_good e.
-        let rest = arguments_good ms bound (us ▹ u) vs ((good.0, u_good.0), (good.1, u_good.1)) e in
-        (rest.0, omega (arith, rest.1)))
+      let rest = arguments_good ms bound (us ▹ u) vs ((good.0, u_good.0), (good.1, u_good.1)) e in
+      (rest.0, omega (arith, rest.1)))
       e
 
   constant_by : (at : ℕ) (a : Text) (o : Option ℕ) (ms : List GoodSurface) (bound : Bound) (t : Term) (given : List (Scoped Term)) → arity a ≡ o
@@ -151,11 +151,11 @@ module _ (arity : Arities) (names : Names) (known : (a : Text) (n : ℕ) → ari
   node_good (Shape-F.Lam x A M) at bound t e =
       then_good (scope arity names A.0 bound) _ bound bound t (A.1 bound)
       (λ B B_good e. then_good (scope arity names M.0 (Some x ∷ bound)) _ bound (Some x ∷ bound) t (M.1 (Some x ∷ bound))
-        (λ N N_good e. ok_is (IsGood bound) (Lam B N) t e (let n = inner_good bound (Some x) N N_good in ((B_good.0, n.0), (B_good.1, n.1)))) e) e
+      (λ N N_good e. ok_is (IsGood bound) (Lam B N) t e (let n = inner_good bound (Some x) N N_good in ((B_good.0, n.0), (B_good.1, n.1)))) e) e
   node_good (Shape-F.Pi x A M) at bound t e =
       then_good (scope arity names A.0 bound) _ bound bound t (A.1 bound)
       (λ B B_good e. then_good (scope arity names M.0 (x ∷ bound)) _ bound (x ∷ bound) t (M.1 (x ∷ bound))
-        (λ N N_good e. ok_is (IsGood bound) (Pi B N) t e (let n = inner_good bound x N N_good in ((B_good.0, n.0), (B_good.1, n.1)))) e) e
+      (λ N N_good e. ok_is (IsGood bound) (Pi B N) t e (let n = inner_good bound x N N_good in ((B_good.0, n.0), (B_good.1, n.1)))) e) e
 
   shape_good : (y : Shape-F GoodShape GoodSurface) → ShapeGood (roll-Shape (map-Shape GoodShape GoodSurface Shape Surface (λ p. p.0) (λ p. p.0) y))
   unfolding scope

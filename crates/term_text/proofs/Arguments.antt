@@ -100,6 +100,6 @@ put_next means names k us i d start so_far comma out p h a b c =
     let before = texts names k (terms_of (map means (take i us))) in
     let z = text names k (means (get_or us i d)) in
     c ∙ ap (λ x. x ++ z) b ∙ ap (λ x. (x ++ (44 ∷ 32 ∷ [])) ++ z) a
-        ∙ append_assoc (start ++ before) (44 ∷ 32 ∷ []) z
-        ∙ append_assoc start before (44 ∷ 32 ∷ z)
-        ∙ ap (λ x. start ++ x) (sym (text_of_next means names k us i d p h))
+    ∙ append_assoc (start ++ before) (44 ∷ 32 ∷ []) z
+    ∙ append_assoc start before (44 ∷ 32 ∷ z)
+    ∙ ap (λ x. start ++ x) (sym (text_of_next means names k us i d p h))

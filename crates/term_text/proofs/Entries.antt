@@ -29,15 +29,15 @@ entry_at (name ∷ names) first zero named h =
     let e : first + 0 ≡ first = omega arith in
     let t : eqb first first ≡ true = grind (arith, nat_tests) in
     subst (λ l. level_text first (name ∷ names) l ≡ cond (hidden (name ∷ names) 0) (level_name l) name) (sym e)
-        (ap (λ b. cond b (entry_text first name names) (level_text (first + 1) names first)) t ∙ by_name first name (list_any (bytes_eq name) names) named.0)
+    (ap (λ b. cond b (entry_text first name names) (level_text (first + 1) names first)) t ∙ by_name first name (list_any (bytes_eq name) names) named.0)
 entry_at (name ∷ names) first (suc j) named h =
     let t : eqb (first + suc j) first ≡ false = grind (arith, nat_tests) in
     let e : first + 1 + j ≡ first + suc j = omega arith in
     let s : suc j + 1 ≡ suc (j + 1) = omega arith in
     let same : hidden names j ≡ hidden (name ∷ names) (suc j) = ap (λ n. list_any (bytes_eq (get_or names j [])) (drop n (name ∷ names))) (sym s) in
     ap (λ b. cond b (entry_text (first + suc j) name names) (level_text (first + 1) names (first + suc j))) t
-        ∙ (subst (λ l. level_text (first + 1) names l ≡ cond (hidden names j) (level_name l) (get_or names j [])) e (entry_at names (first + 1) j named.1 (omega arith))
-        ∙ ap (λ b. cond b (level_name (first + suc j)) (get_or names j [])) same)
+    ∙ (subst (λ l. level_text (first + 1) names l ≡ cond (hidden names j) (level_name l) (get_or names j [])) e (entry_at names (first + 1) j named.1 (omega arith))
+    ∙ ap (λ b. cond b (level_name (first + suc j)) (get_or names j [])) same)
 
 -- an entry that is hidden, or a bound variable
 pub level_shown : (names : Names) (level : ℕ) → NamedFrom 0 names → (level < length names → hidden names level ≡ true) → level_text 0 names level ≡ level_name level

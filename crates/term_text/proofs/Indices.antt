@@ -30,8 +30,8 @@ named_next x names i d h =
     let e : suc i ≡ i + 1 = omega arith in
     let n : length (drop (suc i) names) ≡ length names - 1 - i = length-drop (suc i) names ∙ omega arith in
     ap (index_named x) (drop-cons names i d h)
-        ∙ ap (λ n. or_else (index_named x (drop (suc i) names)) (cond (bytes_eq x (get_or names i d)) (Some n) None)) n
-        ∙ ap (λ m. or_else (index_named x (drop m names)) (cond (bytes_eq x (get_or names i d)) (Some (length names - 1 - i)) None)) e
+    ∙ ap (λ n. or_else (index_named x (drop (suc i) names)) (cond (bytes_eq x (get_or names i d)) (Some n) None)) n
+    ∙ ap (λ m. or_else (index_named x (drop m names)) (cond (bytes_eq x (get_or names i d)) (Some (length names - 1 - i)) None)) e
 
 pub named_start : (x : Text) (names : Names) → or_else (index_named x (drop 0 names)) None ≡ index_named x names
 named_start x [] = refl
@@ -42,9 +42,9 @@ pub named_turn : (x : Text) (names : Names) (i : ℕ) (d : Text) (found : Option
     → or_else (index_named x (drop (i + 1) names)) (or_else (cond b (Some (length names - 1 - i)) None) found) ≡ index_named x names
 named_turn x names i d found b h is e =
     sym (or_else_assoc (index_named x (drop (i + 1) names)) (cond b (Some (length names - 1 - i)) None) found)
-        ∙ ap (λ c. or_else (or_else (index_named x (drop (i + 1) names)) (cond c (Some (length names - 1 - i)) None)) found) (sym is)
-        ∙ ap (λ o. or_else o found) (sym (named_next x names i d h))
-        ∙ e
+    ∙ ap (λ c. or_else (or_else (index_named x (drop (i + 1) names)) (cond c (Some (length names - 1 - i)) None)) found) (sym is)
+    ∙ ap (λ o. or_else o found) (sym (named_next x names i d h))
+    ∙ e
 
 pub named_end : (x : Text) (names : Names) (i : ℕ) (found : Option ℕ) → length names ≤ i → or_else (index_named x (drop i names)) found ≡ index_named x names → found ≡ index_named x names
 named_end x [] zero found h e = e

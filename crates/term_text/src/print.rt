@@ -24,6 +24,7 @@ pub enum Printed {
 }
 
 const MAX_NODES: u64 = 65_536;
+
 const MAX_DEPTH: u64 = 512;
 
 /// The text of a term in a context whose entries have these names, or its size exactly where it has more than 65,536 nodes or a depth

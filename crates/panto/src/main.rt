@@ -1,0 +1,48 @@
+//! panto, a proof-search server over λD: the program. It hands its words, standard input, standard output and standard error to
+//! the top call, and ends with the code of the status.
+#![tactic(auto)]
+
+use pan_io::{StdErr, StdIn, StdOut};
+use panto_cli::{Status, panto_run, write_note};
+use std::env;
+use std::io::ErrorKind;
+use std::process::ExitCode;
+
+/// The words after the program's name. A word that isn't UTF-8 is none of any form.
+fn words_of(rt: &HostRuntime) -> Result<Vec<String>, Status> {
+    let mut arguments = match env::args(rt) {
+        Ok(arguments) => arguments,
+        Err(error) if error.kind() == ErrorKind::InvalidData => return Err(Status::Usage),
+        Err(_) => return Err(Status::Memory),
+    };
+    let _program = arguments.next();
+    let mut words = Vec::new(rt.alloc());
+    for word in arguments {
+        if words.push(word).is_err() {
+            return Err(Status::Memory);
+        }
+    }
+    Ok(words)
+}
+
+/// Runs on the standard streams. An error is a status whose note isn't written yet.
+fn run(rt: &HostRuntime, notes: &mut StdErr) -> Result<Status, Status> {
+    let words = words_of(rt)?;
+    let mut input = StdIn::new(rt.stdin());
+    let Ok(mut output) = StdOut::new(rt.alloc(), rt.stdout()) else {
+        return Err(Status::Memory);
+    };
+    Ok(panto_run(rt.alloc(), &words, &mut input, &mut output, notes))
+}
+
+fn main(rt: HostRuntime) -> ExitCode {
+    let mut notes = StdErr::new(rt.stderr());
+    let status = match run(&rt, &mut notes) {
+        Ok(status) => status,
+        Err(status) => {
+            write_note(&mut notes, status);
+            status
+        }
+    };
+    ExitCode::from(status.code())
+}

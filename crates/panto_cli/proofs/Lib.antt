@@ -1,0 +1,5 @@
+mod BuiltLaws
+mod PrintedText
+mod ReplyLemmas
+mod RunLemmas
+mod SessionLemmas

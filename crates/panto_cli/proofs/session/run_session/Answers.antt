@@ -1,0 +1,27 @@
+use Rattle.std.proofs.Common.{◌≡◌, ℕ, ◌≤◌, ◌<◌, ◌^◌, ◌-◌, List, arith}
+use Rattle.panto_cli.specs.Progress.{Runs, Steps}
+use Rattle.panto_cli.proofs.SessionLemmas.{along_none}
+use Rattle.panto_cli.proofs.session.run_session.Goals as goal
+
+pub lines-init : goal.lines-init
+lines-init g c = record {
+  runs = along_none _ _ _ c.in-Ok.ensures.history c.in-Ok.ensures.stop;
+  later_in = omega arith;
+  later_out = omega arith;
+  most = omega (arith, c.in-Ok.ensures.used);
+}
+
+pub lines-smaller : goal.lines-smaller
+lines-smaller g c =
+    let went = c.in-Next.ensures.step _ _ c.lines.invariant.runs in
+    omega (arith, went.1, c.in-Next.ensures.most)
+
+pub lines-preserved : goal.lines-preserved
+lines-preserved g c =
+    let went = c.in-Next.ensures.step _ _ c.lines.invariant.runs in
+    record {
+      runs = went.0;
+      later_in = omega (arith, c.in-Next.ensures.later_in);
+      later_out = omega (arith, c.in-Next.ensures.later_out);
+      most = c.in-Next.ensures.most;
+    }

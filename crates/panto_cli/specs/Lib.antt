@@ -1,0 +1,5 @@
+pub mod Echo
+pub mod Reply
+pub mod Session
+pub mod Progress
+pub mod Run

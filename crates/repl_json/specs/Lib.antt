@@ -1,0 +1,4 @@
+pub mod Json
+pub mod Request
+pub mod Reply
+pub mod Parts

@@ -1,0 +1,109 @@
+//! The bytes of a reply, into a sink.
+
+ghost use Rattle.std.specs.Prelude.{◌≡◌, OnOk, OnErr, is_some};
+ghost use Rattle.std.specs.List.{flat_map};
+ghost use Rattle.std.specs.Io.KnownBytes.{Appends};
+ghost use Rattle.pan_io.specs.Faults.{HasCause};
+ghost use Rattle.pan_io.specs.Put.{AppendsPrefix};
+ghost use Rattle.repl_json.specs.Reply.{text, body_text};
+ghost use Rattle.repl_json.specs.Parts.{part_bytes};
+
+use crate::reply::{Body, Line};
+use itoa::Buffer;
+use pan_io::{Failed, Sink, put_all};
+
+/// A part of a reply.
+#[derive(Clone, Copy)]
+pub enum Part<'a> {
+    Text(&'a [u8]),
+    Number(u64),
+}
+
+fn put_part<K: Sink>(sink: &mut K, part: &Part<'_>) -> Result<(), Failed>
+    ensures ok { OnOk result (Appends (K.taken sink.old) (K.taken sink.new) (part_bytes part.now)) }
+    ensures failed { OnErr result (AppendsPrefix (K.taken sink.old) (K.taken sink.new) (part_bytes part.now)) }
+    ensures tells { is_some (K.taken sink.new) ≡ is_some (K.taken sink.old) }
+    ensures cause { HasCause (K.faults sink.old) (K.faults sink.new) result }
+{
+    match part {
+        Part::Text(bytes) => put_all(sink, bytes),
+        Part::Number(n) => {
+            let mut buffer = Buffer::new();
+            put_all(sink, buffer.format(*n).as_bytes())
+        }
+    }
+}
+
+fn put_parts<K: Sink>(sink: &mut K, parts: &[Part<'_>]) -> Result<(), Failed>
+    ensures ok { OnOk result (Appends (K.taken sink.old) (K.taken sink.new) (flat_map part_bytes parts.now)) }
+    ensures failed { OnErr result (AppendsPrefix (K.taken sink.old) (K.taken sink.new) (flat_map part_bytes parts.now)) }
+    ensures tells { is_some (K.taken sink.new) ≡ is_some (K.taken sink.old) }
+    ensures cause { HasCause (K.faults sink.old) (K.faults sink.new) result }
+{
+    for part in parts {
+        put_part(sink, part)?;
+    }
+    Ok(())
+}
+
+/// Writes a reply's bytes and one line end. It takes no memory.
+///
+/// # Errors
+/// `Failed` only where the sink's count of faults rose; the sink has then taken a front of the reply.
+#[tactic(auto, unfolding(crate::specs::Reply::text))]
+pub fn finish_line<K: Sink>(line: &Line, sink: &mut K) -> Result<(), Failed>
+    ensures ok { OnOk result (Appends (K.taken sink.old) (K.taken sink.new) (text line.now)) }
+    ensures failed { OnErr result (AppendsPrefix (K.taken sink.old) (K.taken sink.new) (text line.now)) }
+    ensures tells { is_some (K.taken sink.new) ≡ is_some (K.taken sink.old) }
+    ensures cause { HasCause (K.faults sink.old) (K.faults sink.new) result }
+{
+    match line {
+        Line::Given { body, seq, id } => put_body(sink, body, *seq, *id),
+    }
+}
+
+/// The pieces of a body, with its numbers between them.
+fn put_body<K: Sink>(sink: &mut K, body: &Body, seq: u64, id: Option<u64>) -> Result<(), Failed>
+    ensures ok { OnOk result (Appends (K.taken sink.old) (K.taken sink.new) (body_text body.now seq id)) }
+    ensures failed { OnErr result (AppendsPrefix (K.taken sink.old) (K.taken sink.new) (body_text body.now seq id)) }
+    ensures tells { is_some (K.taken sink.new) ≡ is_some (K.taken sink.old) }
+    ensures cause { HasCause (K.faults sink.old) (K.faults sink.new) result }
+{
+    let first = body.first.as_slice();
+    let second = body.second.as_slice();
+    let third = body.third.as_slice();
+    match id {
+        None => put_parts(
+            sink,
+            &[
+                Part::Text(first),
+                Part::Number(seq),
+                Part::Text(second),
+                Part::Text(third),
+                Part::Text(b"\n"),
+            ],
+        ),
+        Some(id) if body.id_first => put_parts(
+            sink,
+            &[
+                Part::Text(first),
+                Part::Number(id),
+                Part::Text(second),
+                Part::Number(seq),
+                Part::Text(third),
+                Part::Text(b"\n"),
+            ],
+        ),
+        Some(id) => put_parts(
+            sink,
+            &[
+                Part::Text(first),
+                Part::Number(seq),
+                Part::Text(second),
+                Part::Number(id),
+                Part::Text(third),
+                Part::Text(b"\n"),
+            ],
+        ),
+    }
+}

@@ -1,0 +1,37 @@
+ghost use Rattle.std.specs.Prelude.{◌≡◌, IfOk};
+ghost use Rattle.json.specs.Print.{quoted};
+
+use ld_terms::Bytes;
+use serde_json::Value;
+use std::alloc::{AllocError, Global};
+
+/// A reply without its numbers: its pieces, with a gap for the number of entries, and one for a new id where one is made.
+///
+/// Where no id is made the number of entries stands between the first and the second piece. Else the id and the number stand in
+/// the two gaps, the id first where `id_first` says so.
+#[derive(Debug, Drop)]
+pub struct Body {
+    pub first: Bytes,
+    pub second: Bytes,
+    pub third: Bytes,
+    pub id_first: bool,
+}
+
+/// A reply line: all of it but the digits is made before its entry.
+#[derive(Debug, Drop)]
+pub enum Line {
+    /// A body, the number of entries before it, and the new id where one is made.
+    Given {
+        body: Body,
+        seq: u64,
+        id: Option<u64>,
+    },
+}
+
+/// A text as a JSON string, as `serde_json` writes it compactly. Fails for want of memory alone.
+pub fn quoted_text(alloc: Global, text: &str) -> Result<Vec<u8>, AllocError>
+    ensures { IfOk result (λ v. v.items ≡ quoted text.now) }
+{
+    let value = Value::String(String::from_str(alloc, text)?);
+    value.to_vec(alloc)
+}
