@@ -58,10 +58,10 @@ some_wait : (b pending : List ℕ) (left : Option (List ℕ)) (t : List ℕ) →
 some_wait b pending None t some used = absurd used
 some_wait b pending (Some ys) t some used = (pending ++ ys, used, omega (arith, length-append pending ys))
 
-none_left : (pending : List ℕ) (left : Option (List ℕ)) → IsAtEnd (ahead pending left) → IsAtEnd left
-none_left pending None at_end = at_end
-none_left [] (Some ys) at_end = at_end
-none_left (x ∷ pending) (Some ys) at_end = cc
+all_consumed : (b pending : List ℕ) (left : Option (List ℕ)) (seen : List ℕ) → b ≡ seen → Consumes (Some b) (ahead pending left) seen → IsAtEnd (ahead pending left) → Consumes (Some b) left b
+all_consumed b pending None seen all used at_end = absurd used
+all_consumed b [] (Some ys) seen all used at_end = used ∙ ap (λ l. l ++ ys) (sym all)
+all_consumed b (x ∷ pending) (Some ys) seen all used at_end = cc
 
 -- the lines so far are the first ones of the input
 rest_of_lines : (left : Option (List ℕ)) (b : List ℕ) (reader : Reader) (seen : List ℕ) (lines : List (List ℕ)) (stop : Stop)
@@ -190,9 +190,9 @@ end_taken (Some b) left left' out out' old new seq (seen, lines, along) continue
     let (seen', history, ended) = continues seen lines along.history in
     let gave = gave_at new.stop Ended left' new seen' lines ended history.gave in
     let all : b ≡ seen' = all_used b (before_it new left') seen' history.consumed gave.1 in (
-      subst (λ l. Appends out out' (replies 0 l)) (gave.0 ∙ ap lines_of (sym all)) along.output,
+      all_consumed b new.pending left' seen' all history.consumed gave.1,
       omega (arith, ap length all, history.counted),
-      none_left new.pending left' gave.1,
+      subst (λ l. Appends out out' (replies 0 l)) (gave.0 ∙ ap lines_of (sym all)) along.output,
     )
 
 pub fault_taken : (start left left' out out' : Option (List ℕ)) (old new : Reader) (seq : ℕ)

@@ -1,6 +1,6 @@
 -- What a session over an input leaves, by its end.
 use Rattle.std.specs.Prelude.{◌≡◌, ℕ, ◌^◌, ◌<◌, ◌≤◌, List, ◌++◌, length, take, Option, Some, IfSome}
-use Rattle.std.specs.Io.KnownBytes.{Consumes, Appends, IsAtEnd}
+use Rattle.std.specs.Io.KnownBytes.{Consumes, Appends}
 use Rattle.pan_io.specs.Text.{lines_of, whole_lines_of}
 use Rattle.pan_io.specs.Put.{AppendsPrefix}
 use Rattle.panto_cli.specs.Reply.{replies}
@@ -10,7 +10,7 @@ use Rattle.panto_cli.specs.declared.session.End.TheVariants.{Done, ReadFault, Wr
 -- for an input of these bytes
 abbrev pub Leaves : List ℕ → Option (List ℕ) → Option (List ℕ) → Option (List ℕ) → End → Type 0
 -- the input was read to its end and each line has its reply
-Leaves input left out out' Done = Appends out out' (replies 0 (lines_of input)) × (length input ≤ 2 ^ 40) × IsAtEnd left
+Leaves input left out out' Done = Consumes (Some input) left input × (length input ≤ 2 ^ 40) × Appends out out' (replies 0 (lines_of input))
 -- each line that was whole in the bytes taken has its reply
 Leaves input left out out' ReadFault = (taken : List ℕ) × Consumes (Some input) left taken × Appends out out' (replies 0 (whole_lines_of taken))
 Leaves input left out out' Long = (2 ^ 40 < length input) × Appends out out' (replies 0 (whole_lines_of (take (2 ^ 40) input)))

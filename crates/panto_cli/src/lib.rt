@@ -7,9 +7,9 @@ mod echo;
 mod run;
 mod session;
 mod status;
+mod worked;
 
 pub use run::{panto_run, write_note};
-pub use session::{End, run_session};
 pub use status::Status;
 
 #[cfg(test)]

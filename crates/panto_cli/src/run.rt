@@ -1,6 +1,6 @@
 //! The top call: the words, the session, the note.
 
-ghost use Rattle.std.specs.Prelude.{◌≡◌, ◌↔◌, ◌≤◌, IsTrue, codes, string_bytes};
+ghost use Rattle.std.specs.Prelude.{◌≡◌, ◌↔◌, ◌≤◌, IsTrue, codes, string_bytes, is_some};
 ghost use Rattle.pan_io.specs.Faults.{Rose};
 ghost use Rattle.panto_cli.specs.Run.{AreRunWords, Noted, IsSessionOf, Completes, note_of};
 
@@ -42,6 +42,7 @@ fn note_of(status: Status) -> &'static str
 /// Writes the note line of a status. A fault of the notes changes nothing else.
 pub fn write_note<N: Sink>(notes: &mut N, status: Status)
     ensures noted { Noted (N.taken notes.old) (N.taken notes.new) (N.faults notes.old) (N.faults notes.new) (note_of status) }
+    ensures tells { is_some (N.taken notes.new) ≡ is_some (N.taken notes.old) }
     ensures later { N.faults notes.old ≤ N.faults notes.new }
 {
     let _ = put_all(notes, note_of(status).as_bytes());
@@ -49,10 +50,11 @@ pub fn write_note<N: Sink>(notes: &mut N, status: Status)
 
 /// Runs panto on its words: `run` answers each line of the input with one line of the output.
 ///
-/// The output is, for every input however it is cut into reads, the concatenation of the replies to its lines, by the session that
-/// the status names. Notes get the line of the status. `Usage` comes exactly where the words are not the one word `run`; then
-/// nothing is read or written. `ReadFault` and `WriteFault` come only where the count of faults of the input or the output
-/// rose, `Long` exactly where the input has more than 1,099,511,627,776 bytes. Only want of memory (`Memory`) is free.
+/// Where the input tells its bytes, the output is, however they are cut into reads, what the session that the status names leaves: at
+/// `Done` the concatenation of the replies to all lines. Notes get the line of the status. `Usage` comes exactly where the words are
+/// not the one word `run`; then nothing is read from the input or written to the output. `ReadFault` and `WriteFault` come only
+/// where the count of faults of the input or the output rose, `Long` only where the input has more than 1,099,511,627,776 bytes, and
+/// `Done` only where it hasn't. Only want of memory (`Memory`) is free.
 pub fn panto_run<S: Source, K: Sink, N: Sink>(
     alloc: Global,
     words: &[String],
@@ -60,7 +62,7 @@ pub fn panto_run<S: Source, K: Sink, N: Sink>(
     output: &mut K,
     notes: &mut N,
 ) -> Status
-    // The words decide `Usage`, and then nothing is read or written.
+    // The words decide `Usage`; then nothing is read from the input or written to the output.
     ensures usage { (result ≡ Status.Usage) ↔ (¬ AreRunWords words.now) }
     ensures unread { result ≡ Status.Usage → input.new ≡ input.old }
     ensures unwritten { result ≡ Status.Usage → output.new ≡ output.old }
@@ -69,6 +71,10 @@ pub fn panto_run<S: Source, K: Sink, N: Sink>(
     // The causes of faults.
     ensures read { result ≡ Status.ReadFault → Rose (S.faults input.old) (S.faults input.new) }
     ensures write { result ≡ Status.WriteFault → Rose (K.faults output.old) (K.faults output.new) }
+    // No call changes whether an end tells its bytes, and no count falls.
+    ensures tells_in { is_some (S.left input.new) ≡ is_some (S.left input.old) }
+    ensures tells_out { is_some (K.taken output.new) ≡ is_some (K.taken output.old) }
+    ensures tells_notes { is_some (N.taken notes.new) ≡ is_some (N.taken notes.old) }
     ensures later_in { S.faults input.old ≤ S.faults input.new }
     ensures later_out { K.faults output.old ≤ K.faults output.new }
     ensures later_notes { N.faults notes.old ≤ N.faults notes.new }

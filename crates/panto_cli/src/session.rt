@@ -22,7 +22,7 @@ pub enum End {
     ReadFault,
     /// The output failed.
     WriteFault,
-    /// There was no memory for a line's reply.
+    /// Memory was wanted; the output has the replies of the lines before.
     Memory,
     /// The input has more bytes than a session may use.
     Long,
@@ -31,7 +31,9 @@ pub enum End {
 /// Why a line was not answered.
 #[derive(Debug, Clone, Copy, PartialEq, Eq, Drop)]
 pub enum Halt {
+    /// The output failed in its reply.
     Write,
+    /// There was no memory for its reply, and nothing was written.
     NoMemory,
 }
 
@@ -78,7 +80,7 @@ fn answer_line<K: Sink>(alloc: Global, line: &[u8], seq: u64, output: &mut K) ->
     answer(alloc, &requests.as_slice()[0].ask, seq, output)
 }
 
-/// Answers a line that was too long to be read.
+/// Answers a line that was too long to be read. Its length serves the contract alone, since the reply doesn't show it.
 fn answer_long<K: Sink>(alloc: Global, len: u64, seq: u64, output: &mut K) -> Result<u64, Halt>
     requires long { 65536 < len }
     requires room { seq < 2 ^ 63 }
@@ -114,6 +116,8 @@ fn answer_next<S: Source, K: Sink>(
     ensures step { (start out : Option (List ℕ)) → Runs start (S.left input.old) out (K.taken output.old) lines.old seq →
         Steps start (S.left input.new) out (K.taken output.new) lines.old lines.new result }
     ensures most { lines.new.used ≤ 2 ^ 40 }
+    ensures tells_in { is_some (S.left input.new) ≡ is_some (S.left input.old) }
+    ensures tells_out { is_some (K.taken output.new) ≡ is_some (K.taken output.old) }
     ensures later_in { S.faults input.old ≤ S.faults input.new }
     ensures later_out { K.faults output.old ≤ K.faults output.new }
     ensures read { result ≡ Step.Stop End.ReadFault → Rose (S.faults input.old) (S.faults input.new)
@@ -134,6 +138,8 @@ pub fn run_session<S: Source, K: Sink>(alloc: Global, input: &mut S, output: &mu
     ensures session { Session (S.left input.old) (S.left input.new) (K.taken output.old) (K.taken output.new) result }
     ensures read { result ≡ End.ReadFault → Rose (S.faults input.old) (S.faults input.new) }
     ensures write { result ≡ End.WriteFault → Rose (K.faults output.old) (K.faults output.new) }
+    ensures tells_in { is_some (S.left input.new) ≡ is_some (S.left input.old) }
+    ensures tells_out { is_some (K.taken output.new) ≡ is_some (K.taken output.old) }
     ensures later_in { S.faults input.old ≤ S.faults input.new }
     ensures later_out { K.faults output.old ≤ K.faults output.new }
 {

@@ -1,3 +1,5 @@
+//! How a run of the program ended.
+
 ghost use Rattle.std.specs.Prelude.{◌≡◌};
 ghost use Rattle.panto_cli.specs.Run.{code_of, status_of};
 
@@ -14,7 +16,7 @@ pub enum Status {
     ReadFault,
     /// The output failed.
     WriteFault,
-    /// There was no memory for a line's reply.
+    /// Memory was wanted; the output has the replies of the lines before.
     Memory,
     /// The input has more than 1,099,511,627,776 bytes.
     Long,

@@ -31,13 +31,13 @@ rest_of line = drop (word_length line) (from_word line)
 abbrev pub default_fuel : ℕ
 default_fuel = 100000
 
-abbrev pub echo_of : Option (List ℕ) → Ask
-echo_of (Some expr) = Echo 0 expr default_fuel
-echo_of None = Bad NotYet
+abbrev pub echo_ask : Option (List ℕ) → Ask
+echo_ask (Some expr) = Echo 0 expr default_fuel
+echo_ask None = Bad NotYet
 
 -- `expr.echo` and a JSON object whose only key is `expr`, with a text; every other line isn't built yet
 abbrev pub ask_of : List ℕ → Ask
-ask_of line = if bytes_eq (first_word line) (codes "expr.echo") then echo_of (expr_in (rest_of line)) else Bad NotYet
+ask_of line = if bytes_eq (first_word line) (codes "expr.echo") then echo_ask (expr_in (rest_of line)) else Bad NotYet
 
 unfoldable pub request_of : List ℕ → Request
 request_of line = record { after = 0; ask = ask_of line }

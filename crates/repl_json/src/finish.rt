@@ -1,11 +1,11 @@
 //! The bytes of a reply, into a sink.
 
-ghost use Rattle.std.specs.Prelude.{◌≡◌, OnOk, OnErr, is_some};
+ghost use Rattle.std.specs.Prelude.{◌≡◌, None, OnOk, OnErr, is_some};
 ghost use Rattle.std.specs.List.{flat_map};
 ghost use Rattle.std.specs.Io.KnownBytes.{Appends};
 ghost use Rattle.pan_io.specs.Faults.{HasCause};
 ghost use Rattle.pan_io.specs.Put.{AppendsPrefix};
-ghost use Rattle.repl_json.specs.Reply.{text, body_text};
+ghost use Rattle.repl_json.specs.Reply.{text, body_text, text_around};
 ghost use Rattle.repl_json.specs.Parts.{part_bytes};
 
 use crate::reply::{Body, Line};
@@ -69,41 +69,45 @@ fn put_body<K: Sink>(sink: &mut K, body: &Body, seq: u64, id: Option<u64>) -> Re
     ensures tells { is_some (K.taken sink.new) ≡ is_some (K.taken sink.old) }
     ensures cause { HasCause (K.faults sink.old) (K.faults sink.new) result }
 {
-    let first = body.first.as_slice();
-    let second = body.second.as_slice();
-    let third = body.third.as_slice();
     match id {
-        None => put_parts(
-            sink,
-            &[
-                Part::Text(first),
-                Part::Number(seq),
-                Part::Text(second),
-                Part::Text(third),
-                Part::Text(b"\n"),
-            ],
-        ),
-        Some(id) if body.id_first => put_parts(
-            sink,
-            &[
-                Part::Text(first),
-                Part::Number(id),
-                Part::Text(second),
-                Part::Number(seq),
-                Part::Text(third),
-                Part::Text(b"\n"),
-            ],
-        ),
-        Some(id) => put_parts(
-            sink,
-            &[
-                Part::Text(first),
-                Part::Number(seq),
-                Part::Text(second),
-                Part::Number(id),
-                Part::Text(third),
-                Part::Text(b"\n"),
-            ],
-        ),
+        None => put_around_one(sink, body, seq),
+        Some(id) if body.id_first => put_around_two(sink, body, id, seq),
+        Some(id) => put_around_two(sink, body, seq, id),
     }
+}
+
+/// The pieces with one number.
+fn put_around_one<K: Sink>(sink: &mut K, body: &Body, number: u64) -> Result<(), Failed>
+    ensures ok { OnOk result (Appends (K.taken sink.old) (K.taken sink.new) (body_text body.now number None)) }
+    ensures failed { OnErr result (AppendsPrefix (K.taken sink.old) (K.taken sink.new) (body_text body.now number None)) }
+    ensures tells { is_some (K.taken sink.new) ≡ is_some (K.taken sink.old) }
+    ensures cause { HasCause (K.faults sink.old) (K.faults sink.new) result }
+{
+    let second = body.second.as_slice();
+    let parts = [
+        Part::Text(body.first.as_slice()),
+        Part::Number(number),
+        Part::Text(second),
+        Part::Text(body.third.as_slice()),
+        Part::Text(b"\n"),
+    ];
+    put_parts(sink, &parts)
+}
+
+/// The pieces with two numbers.
+fn put_around_two<K: Sink>(sink: &mut K, body: &Body, one: u64, two: u64) -> Result<(), Failed>
+    ensures ok { OnOk result (Appends (K.taken sink.old) (K.taken sink.new) (text_around body.now one two)) }
+    ensures failed { OnErr result (AppendsPrefix (K.taken sink.old) (K.taken sink.new) (text_around body.now one two)) }
+    ensures tells { is_some (K.taken sink.new) ≡ is_some (K.taken sink.old) }
+    ensures cause { HasCause (K.faults sink.old) (K.faults sink.new) result }
+{
+    let parts = [
+        Part::Text(body.first.as_slice()),
+        Part::Number(one),
+        Part::Text(body.second.as_slice()),
+        Part::Number(two),
+        Part::Text(body.third.as_slice()),
+        Part::Text(b"\n"),
+    ];
+    put_parts(sink, &parts)
 }

@@ -7,6 +7,7 @@ mod read;
 mod reply;
 mod request;
 mod words;
+mod worked;
 
 pub use finish::finish_line;
 pub use read::read_request;

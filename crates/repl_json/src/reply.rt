@@ -1,3 +1,5 @@
+//! Replies before their numbers are known.
+
 ghost use Rattle.std.specs.Prelude.{◌≡◌, IfOk};
 ghost use Rattle.json.specs.Print.{quoted};
 

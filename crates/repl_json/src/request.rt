@@ -1,3 +1,5 @@
+//! What a line asks for.
+
 use ld_terms::Bytes;
 
 /// Why a line is no request that can be answered by its command.

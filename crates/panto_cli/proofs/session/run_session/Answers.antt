@@ -1,4 +1,4 @@
-use Rattle.std.proofs.Common.{◌≡◌, ℕ, ◌≤◌, ◌<◌, ◌^◌, ◌-◌, List, arith}
+use Rattle.std.proofs.Common.{◌≡◌, ℕ, ◌≤◌, ◌<◌, ◌^◌, ◌-◌, List, arith, refl, ◌∙◌}
 use Rattle.panto_cli.specs.Progress.{Runs, Steps}
 use Rattle.panto_cli.proofs.SessionLemmas.{along_none}
 use Rattle.panto_cli.proofs.session.run_session.Goals as goal
@@ -6,6 +6,8 @@ use Rattle.panto_cli.proofs.session.run_session.Goals as goal
 pub lines-init : goal.lines-init
 lines-init g c = record {
   runs = along_none _ _ _ c.in-Ok.ensures.history c.in-Ok.ensures.stop;
+  tells_in = refl;
+  tells_out = refl;
   later_in = omega arith;
   later_out = omega arith;
   most = omega (arith, c.in-Ok.ensures.used);
@@ -21,6 +23,8 @@ lines-preserved g c =
     let went = c.in-Next.ensures.step _ _ c.lines.invariant.runs in
     record {
       runs = went.0;
+      tells_in = c.in-Next.ensures.tells_in ∙ c.lines.invariant.tells_in;
+      tells_out = c.in-Next.ensures.tells_out ∙ c.lines.invariant.tells_out;
       later_in = omega (arith, c.in-Next.ensures.later_in);
       later_out = omega (arith, c.in-Next.ensures.later_out);
       most = c.in-Next.ensures.most;
