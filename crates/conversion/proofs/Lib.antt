@@ -1,0 +1,12 @@
+pub mod Runs
+pub mod Heads
+pub mod Levels
+pub mod Values
+pub mod Soundness
+pub mod Plain
+pub mod Spines
+pub mod Lookups
+pub mod NextSteps
+pub mod Reducing
+pub mod PartPairs
+pub mod Cases

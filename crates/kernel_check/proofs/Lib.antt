@@ -1,0 +1,4 @@
+pub mod FuelLaw
+pub mod Soundness
+pub mod Calls
+pub mod EntryTypes

@@ -1,0 +1,17 @@
+use Rattle.std.proofs.Common.{refl}
+use Rattle.kernel_check.proofs.examples.inference_computes.Goals as goal
+
+pub returns : goal.returns
+returns c = record {
+  enough = refl;
+  too_few = refl;
+  many = refl;
+  mismatch = refl;
+  not_function = refl;
+  not_type = refl;
+  entry = refl;
+  constant = refl;
+  wrong_count = refl;
+  sort = refl;
+  no_sort = refl;
+}

@@ -1,0 +1,4 @@
+pub mod Inference
+pub mod Laws
+pub mod Answers
+pub mod Steps

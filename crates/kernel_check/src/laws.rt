@@ -1,0 +1,29 @@
+ghost use Rattle.kernel_check.specs.Laws.{
+  InferenceHasFuelLaw,
+  SortHasFuelLaw,
+  InferenceIsSound,
+  SortIsSound,
+};
+
+/// The fuel law of inference: where an answer left some units, each number of units that covers the difference gives the same
+/// answer with as many more or fewer left, and each smaller number gives none.
+pub fn inference_has_fuel_law()
+    ensures { InferenceHasFuelLaw }
+{}
+
+/// The fuel law of the sort of a term.
+pub fn sort_has_fuel_law()
+    ensures { SortHasFuelLaw }
+{}
+
+/// In a legal environment and context the type that is inferred for a term is one that the rules give it.
+#[tactic(auto, using(crate::proofs::Soundness::inference_is_sound))]
+pub fn inference_is_sound()
+    ensures { InferenceIsSound }
+{}
+
+/// In a legal environment and context the sort that is inferred for a term is one that the rules give it.
+#[tactic(auto, using(crate::proofs::Soundness::sort_is_sound))]
+pub fn sort_is_sound()
+    ensures { SortIsSound }
+{}
