@@ -3,3 +3,4 @@ pub mod Search
 pub mod Grown
 pub mod Top
 pub mod Table
+pub mod Examples

@@ -14,16 +14,17 @@
 //! own to search by: the first key of a node or leaf is that of its first entry.
 //!
 //! `with` copies one leaf, one node and the list of nodes, and shares all other leaves and nodes with the old map. So
-//! a further version of a map of n keys takes the memory of at most 65 entries, 65 pointers and the list of nodes,
-//! which for keys put in order or at random has fewer than n / 1,000 of them. A block that would get a 65th part is
-//! cut in two, in the middle, or before its new last part, so that keys that come in rising order leave full blocks
-//! behind.
+//! a further version takes the memory of at most 65 entries, 65 pointers to leaves, and the list of nodes. As a node holds
+//! from 1 to 64 leaves and a leaf from 1 to 64 entries, a map of n keys has at least n / 4,096 nodes and at most n. A block
+//! that would get a 65th part is cut in two, in the middle, or before its new last part, so that keys that come in rising
+//! order leave full blocks behind.
 //!
 //! In contracts a map is the list of its entries in the order of their keys, each key once. `find`, `put` and
 //! `is_sorted` of std's `FinMap` are the words for it, and std's laws on them (`find-put`, `is_sorted-put`,
 //! `length-put`, `same_entries`) apply. `tables_are_lists` is the law for maps whose keys are the numbers from 0 on.
 #![tactic(auto)]
 
+mod examples;
 mod laws;
 mod leaf;
 mod map;

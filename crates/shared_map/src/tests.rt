@@ -122,30 +122,20 @@ fn threads_share_a_map(rt: HostRuntime) -> Result<(), Fail> {
     Ok(())
 }
 
-/// The map with the key. Where memory runs out the old map is looked at, and the call is made again.
-fn with_again(
-    alloc: Global,
-    map: &SharedMap<u64, u64>,
-    key: u64,
-) -> Result<SharedMap<u64, u64>, AllocError> {
-    match map.with(alloc, key, key.wrapping_mul(10)) {
-        Ok(next) => Ok(next),
-        Err(AllocError) => {
-            if map.len() != key || wrong(map, key) != 0 {
-                return Err(AllocError);
-            }
-            map.with(alloc, key, key.wrapping_mul(10))
-        }
-    }
-}
-
 /// Made for a run in which one allocation fails: whichever it is, the old map stays and the call succeeds the second
 /// time.
 #[test]
 fn want_of_memory_leaves_the_old_map(rt: HostRuntime) -> Result<(), Fail> {
     let mut map = SharedMap::new();
     for key in 0..70u64 {
-        map = with_again(rt.alloc(), &map, key)?;
+        map = match map.with(rt.alloc(), key, key.wrapping_mul(10)) {
+            Ok(next) => next,
+            Err(AllocError) => {
+                assert_eq!(rt; map.len(), key);
+                assert_eq!(rt; wrong(&map, key), 0);
+                map.with(rt.alloc(), key, key.wrapping_mul(10))?
+            }
+        };
     }
     let fork = match map.fork(rt.alloc()) {
         Ok(fork) => fork,

@@ -54,7 +54,7 @@ pub struct Pass<T: Storied> {
 }
 
 impl<T: Storied> Model for Pass<T> {
-    ghost use Rattle.std.specs.Prelude.{◌≡◌};
+    ghost use Rattle.std.specs.Prelude.{◌≡◌, ◌<◌};
     ghost use Rattle.turn_lock.specs.Meanings.{PassMeaning};
     ghost use Rattle.turn_lock.specs.Views.{pass_meaning, IsAtRest};
 
@@ -62,7 +62,7 @@ impl<T: Storied> Model for Pass<T> {
 
     ghost view = { λ p. pass_meaning p.seat.table_id p.seat.me.0 };
 
-    ghost invariant = { λ p. IsAtRest p.seat.me × (p.number ≡ p.seat.me.0.number) × (p.found ≡ p.seat.me.0.found) };
+    ghost invariant = { λ p. IsAtRest p.seat.me × (p.number ≡ p.seat.me.0.number) × (p.number < 64) × (p.found ≡ p.seat.me.0.found) };
 }
 
 /// What a pass had seen, for another pass to learn. It holds a copy of that pass's view and its found number.
@@ -215,7 +215,8 @@ impl<T: Storied> Shared<T> {
 
     /// Ends the lock, and gives the value back, with the ground that `open` found and a list that is all that the pass
     /// has seen. The pass has to be pass 0, to have taken back all numbers that it gave, and to have learnt as many notes
-    /// as it told, those of the joined passes counted. It is given back to be read: its lock is closed.
+    /// as it told, those of the joined passes counted. It is given back to be read. That it is no longer open marks that
+    /// it belongs to no lock any more; everything else of its meaning is as it was.
     pub fn close(self, pass: Pass<T>) -> (T, Pass<T>)
         requires own { IsPassOf self pass }
         requires root { pass.number ≡ 0 }
@@ -248,7 +249,8 @@ impl<T: Storied> Shared<T> {
 impl<T: Storied> Pass<T> {
     /// The pass's number, from 0 to 63.
     pub fn number(&self) -> u32
-        ensures { result ≡ self.now.number }
+        ensures is { result ≡ self.now.number }
+        ensures small { result < 64 }
     {
         self.number
     }

@@ -1,4 +1,18 @@
-// How views are handed from pass to pass: split, join and read.
+//! How views are handed from pass to pass: split, join and read.
+//!
+//! Each call of the lock that hands a view on is made of such steps: `split` of a read, a split, and a read by the
+//! new pass; `tell` of a read and a split; `join` and `learn` of a join and a read.
+//!
+//! What is given is recorded in the split itself, in the view of the seat that gives it: the number of the new pass,
+//! or one note more that it told. So there is no moment at which a pass or a note is out and no view tells of it.
+//! What is taken back is recorded in the join: the counts of notes, the greater found number, and the other view,
+//! which is kept beside the pass's own. The read after the join compares the two views, keeps the longer one, and
+//! moves the numbers that came with the other view to those that the pass took back.
+//!
+//! The reads of `split` and `tell` change no view, and no contract uses what they find: the record does not rest on
+//! them. They are there because the steps of these calls have them, as the points at which the pass looks at the
+//! journal before it gives, and the new pass before its first turn. Each tells that the pass has seen no more entries
+//! than there are.
 ghost use Rattle.std.specs.Prelude.{◌≡◌, ℕ, ◌<◌, ◌≤◌, [], length, Contains};
 ghost use Rattle.turn_lock.specs.declared.view.Stage.TheVariants.{Idle};
 ghost use Rattle.turn_lock.specs.Journals.{DifferByOthers};

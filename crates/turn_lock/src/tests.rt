@@ -5,6 +5,7 @@ use super::*;
 use std::alloc::{AllocError, Global};
 use std::sync::Wait;
 use std::test::Fail;
+use std::thread;
 use std::thread::{Threads, join};
 
 // The step with this number of a pass.
@@ -58,6 +59,11 @@ impl Story {
         }
         false
     }
+
+    // Whether there is a step of another pass.
+    fn has_others(&self, pass: u32) -> bool {
+        self.steps.iter().any(|step| step.pass != pass)
+    }
 }
 
 // One turn, with one step.
@@ -91,18 +97,42 @@ fn a_note_tells_of_a_turn(rt: HostRuntime) -> Result<(), Fail> {
     Ok(())
 }
 
+// Takes turns without a step until another pass has made one, and says whether one did. It gives up after ten million
+// turns.
+fn await_other<W: Threads + Wait + Sync>(
+    rt: &W,
+    shared: &Shared<Story>,
+    pass: &mut Pass<Story>,
+) -> bool
+    requires { IsPassOf shared.now pass.old }
+    ensures { pass.new ≡ record pass.old { seen = pass.new.seen; found = pass.new.found } }
+{
+    let by = pass.number();
+    for _ in 0..10_000_000 {
+        let found = shared.turn(rt, pass, move |story: &mut Story| story.has_others(by));
+        if found == Ok(true) {
+            return true;
+        }
+        thread::yield_now();
+    }
+    false
+}
+
+// Makes a step, waits for the first one of another pass, and makes 999 more. It says whether the other one came.
 fn make_steps<W: Threads + Wait + Sync>(
     rt: &W,
     shared: &Shared<Story>,
     mut pass: Pass<Story>,
-) -> Pass<Story>
+) -> (Pass<Story>, bool)
     requires { IsPassOf shared.now pass }
-    ensures { result ≡ record pass { seen = result.seen; found = result.found } }
+    ensures { result.0 ≡ record pass { seen = result.0.seen; found = result.0.found } }
 {
-    for number in 0..1000 {
+    let _ = make_step(rt, shared, &mut pass, 0);
+    let met = await_other(rt, shared, &mut pass);
+    for number in 1..1000 {
         let _ = make_step(rt, shared, &mut pass, number);
     }
-    pass
+    (pass, met)
 }
 
 // Whether each pass's steps stand in the order in which it made them.
@@ -120,18 +150,20 @@ fn in_order(steps: &[Step]) -> bool {
     true
 }
 
+/// Each thread waits for the other's first step, so neither is through before the other has begun.
 #[test]
 fn two_threads_take_turns(rt: HostRuntime) -> Result<(), Fail> {
     let (shared, mut zero) = Shared::open(rt.alloc(), Story::new(rt.alloc(), 2000)?)?;
     let one = shared.split(&mut zero, 1);
     let lock = &shared;
-    let (mut zero, one) = join(
+    let ((mut zero, met_one), (one, met_zero)) = join(
         &rt,
         move || make_steps(&rt, lock, zero),
         move || make_steps(&rt, lock, one),
     );
     shared.join(&mut zero, one);
     let (story, _zero) = shared.close(zero);
+    assert!(rt; met_one && met_zero);
     assert_eq!(rt; story.steps.len(), 2000);
     assert!(rt; in_order(story.steps.as_slice()));
     Ok(())

@@ -1,6 +1,6 @@
 -- Lists read by position.
 use Rattle.std.proofs.Common.{◌≡◌, ◌≢◌, length-set, get_or-set_other, ℕ, zero, suc, ◌+◌, ◌<◌, ◌≤◌, List, [], ◌∷◌, ◌++◌, map, set, length, take, drop, get_or, slice_get, Some, subst, length-append, add-one, refl, sym, ap, ◌∙◌, arith}
-use Rattle.std.specs.List.{All, AllWithin}
+use Rattle.std.specs.List.{All, AllWithin, AllZip}
 use lib.Seq.{take-append_seam}
 use Rattle.std.proofs.Math.Seq.{get_or-append_seam}
 use Rattle.std.proofs.Math.ListN.{get_or-map}
@@ -140,3 +140,17 @@ all_over {X} ys xs f P is all = let Q : List X → Type 0 = λ l. All P l in sub
 -- what holds of f of each element of one list holds in another that f cannot tell apart from it
 pub all_same : {X Y : Type 0} (xs ys : List X) (f : X → Y) (Q : Y → Type 0) → map f xs ≡ map f ys → All (λ y. Q (f y)) ys → All (λ x. Q (f x)) xs
 all_same xs ys f Q same all = all_under xs (map f ys) f Q same (all_over ys (map f ys) f Q refl all)
+
+-- what holds of all but the first
+all_rest : {X : Type 0} (x : X) (xs : List X) (P : X → Type 0) → All P (x ∷ xs) → All P xs
+all_rest x xs P all k d within = all (suc k) d (omega arith)
+
+-- where each x is in the relation with f x alone, a list that is in it place by place is the list of the f x
+pub zip_is_map : {X Y : Type 0} (R : X → Y → Type 0) (f : X → Y) (xs : List X) (ys : List Y) → All (λ x. (y : Y) → R x y → y ≡ f x) xs → AllZip R xs ys → ys ≡ map f xs
+zip_is_map R f [] [] one zip = refl
+zip_is_map R f [] (y ∷ ys) one zip = absurd zip
+zip_is_map R f (x ∷ xs) [] one zip = absurd zip
+zip_is_map {Y = Y} R f (x ∷ xs) (y ∷ ys) one zip =
+    let first : y ≡ f x = one 0 x (omega arith) y zip.0 in
+    let rest : ys ≡ map f xs = zip_is_map R f xs ys (all_rest x xs (λ x. (y : Y) → R x y → y ≡ f x) one) zip.1 in
+    ap (λ l. y ∷ l) rest ∙ ap (λ z. z ∷ map f xs) first

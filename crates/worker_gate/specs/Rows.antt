@@ -1,6 +1,6 @@
 -- What each of several deques keeps.
-use Rattle.std.specs.Prelude.{ℕ, ◌+◌, ◌*◌, ◌/◌, ◌%◌, min, ◌<◌, List, [], length, slice_index_or}
-use Rattle.std.specs.List.{Contains}
+use Rattle.std.specs.Prelude.{◌≡◌, ℕ, ◌+◌, ◌*◌, ◌/◌, ◌%◌, min, ◌<◌, ◌≤◌, List, [], length, slice_index_or}
+use Rattle.std.specs.List.{Contains, range_with_len}
 use Rattle.atomic_blocks.specs.Lent.{RowsId}
 use Rattle.crossbeam_deque.specs.declared.handles.Worker.{Worker}
 use Rattle.crossbeam_deque.specs.Handles.{worker_deque, worker_view}
@@ -25,3 +25,15 @@ put_of w = (worker_view w).put
 -- where the run of this worker begins, of so many jobs and workers. The first runs have one job more, where the jobs don't go even
 abbrev pub start : ℕ → ℕ → ℕ → ℕ
 start count workers worker = count / workers * worker + min worker (count % workers)
+
+-- The run of this worker: neighbouring positions from where it begins up to where the next run begins. The lengths of two runs differ by at most one.
+abbrev pub IsRun : ℕ → ℕ → ℕ → List ℕ → Type 0
+IsRun count workers worker put =
+    (put ≡ range_with_len (start count workers worker) (length put))
+    × (start count workers worker + length put ≡ start count workers (worker + 1))
+    × (count / workers ≤ length put)
+    × (length put ≤ count / workers + 1)
+
+-- the run of each worker was put into its deque
+abbrev pub Runs : ℕ → ℕ → List (List ℕ) → Type 0
+Runs count workers puts = (worker : ℕ) → worker < length puts → IsRun count workers worker (slice_index_or puts worker [])

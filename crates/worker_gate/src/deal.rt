@@ -1,8 +1,7 @@
 //! The jobs, in a deque for each worker.
 ghost use Rattle.std.specs.Prelude.{◌≡◌, ℕ, ◌+◌, ◌-◌, ◌*◌, ◌/◌, ◌^◌, ◌<◌, ◌≤◌, [], map, drop, length, vec_len, IfOk, OnOk};
-ghost use Rattle.std.specs.List.{All, Contains};
-ghost use Rattle.crossbeam_deque.specs.Handles.{worker_view};
-ghost use Rattle.worker_gate.specs.Rows.{parts, put_of, start, Dealt};
+ghost use Rattle.std.specs.List.{All, range_with_len};
+ghost use Rattle.worker_gate.specs.Rows.{parts, put_of, start, Dealt, Runs};
 
 use crate::ends::OwnDeque;
 use crate::job::Job;
@@ -21,9 +20,10 @@ fn fill<J: Job, K: Batch<J>>(
     requires fits { (first + size ≤ length K.jobs) × (length K.jobs < 2 ^ 32) }
     requires rest { rest.old.rest.items ≡ drop first K.jobs }
     requires fresh { (parts own.old.deque ≡ 1024) × (own.old.answers.items ≡ []) }
+    requires empty { put_of own.old.deque ≡ [] }
     ensures rest { OnOk result (rest.new.rest.items ≡ drop (first + size) K.jobs) }
     ensures fresh { OnOk result ((parts own.new.deque ≡ 1024) × (own.new.answers.items ≡ [])) }
-    ensures put { OnOk result ((p : ℕ) → first ≤ p → p < first + size → Contains (worker_view own.new.deque).put p) }
+    ensures put { OnOk result (put_of own.new.deque ≡ range_with_len first size) }
 {
     let mut at = first;
     for _ in 0..size {
@@ -65,6 +65,7 @@ pub fn deal<J: Job, K: Batch<J>>(
     ensures whole { IfOk result (λ v. All (λ o. parts o.deque ≡ 1024) v.items) }
     ensures none { IfOk result (λ v. All (λ o. o.answers.items ≡ []) v.items) }
     ensures dealt { IfOk result (λ v. Dealt (length K.jobs) (map (λ o. put_of o.deque) v.items)) }
+    ensures runs { IfOk result (λ v. Runs (length K.jobs) workers (map (λ o. put_of o.deque) v.items)) }
 {
     let count = jobs.len() as u32;
     let mut rest = jobs.into_iter();

@@ -7,6 +7,9 @@
 //!
 //! No job is lost and none runs twice: what was put into a deque is what the deque holds and what its passes took (`account`). The
 //! workers' passes come back to each deque's owner, who then knows that every position was taken, and so that it has a result.
+//!
+//! A program that runs a job twice can't be written, so no must-fail edit does: `Job::run` takes the job itself, and a job can't be copied.
+//! Nearest to it is the edit `two_jobs_at_one_position`.
 #![tactic(auto)]
 
 mod account;

@@ -9,7 +9,7 @@ use crate::deal::deal;
 use crate::ends::OwnDeque;
 use crate::job::{Gate, Job};
 use crate::seat::{Seat, work_all};
-use crate::seats::{rows_of, seats_of, split, take_all_back};
+use crate::seats::{rows_of, seats_of, take_all_back, take_apart};
 use crate::table::{empty_table, in_order, write_all};
 use crate::task::Batch;
 use std::alloc::{AllocError, Global};
@@ -51,7 +51,7 @@ fn returned<J: Job, K: Batch<J>>(
     ensures whole { IfOk result (λ v. All (λ o. parts o.deque ≡ 1024) v.items) }
     ensures gave { IfOk result (λ v. All (λ o. AllGave K.jobs J.gives K.told o.answers.items) v.items) }
 {
-    let (mut owns, rows) = split(alloc, seats)?;
+    let (mut owns, rows) = take_apart(alloc, seats)?;
     take_all_back(owns.as_mut_slice(), rows)?;
     Ok(owns)
 }
@@ -145,9 +145,9 @@ fn gather_batch<R: Threads + Sync, J: Job, G: Gate, K: Batch<J> + Send + Sync>(
 }
 
 /// The results of the jobs, in their order, by 1 to 64 workers, each on a thread of its own where one can be started; the caller does
-/// the work of a thread that can't be. Each result is one that its own job may give, so where each job may give just one, this is the list
-/// that one thread gives. The gate is told of each job by its position before it runs, under the number `pass`.
-/// Fails for want of memory alone, as which more than 4,294,967,295 jobs count.
+/// the work of a thread that can't be. Each result is one that its own job may give (`results`). Where each job of the batch may give just
+/// one, the answer is the list that one thread gives (`same`). The gate is told of each job by its position before it runs, under the
+/// number `pass`. Fails for want of memory alone; a batch of 4,294,967,296 jobs (2^32) or more counts as want of memory.
 pub fn gather<R: Threads + Sync, J: Job, G: Gate>(
     rt: &R,
     alloc: Global,
@@ -158,6 +158,7 @@ pub fn gather<R: Threads + Sync, J: Job, G: Gate>(
 ) -> Result<Vec<J::Done>, AllocError>
     requires { (0 < workers) × (workers ≤ 64) }
     ensures results { IfOk result (λ v. AllZip J.gives jobs.items v.items) }
+    ensures same { (g : J → J.Done) → All (λ j. (d : J.Done) → J.gives j d → d ≡ g j) jobs.items → IfOk result (λ v. v.items ≡ map g jobs.items) }
     ensures told { OnOk result ((p : ℕ) → p < vec_len jobs → G.told pass p) }
 {
     if jobs.len() >= 1 << 32 {

@@ -80,8 +80,8 @@ pub fn seats_of<J: Job, K: Batch<J>>(
     Ok(seats)
 }
 
-/// The deques and the rows of all workers.
-pub fn split<J: Job, K: Batch<J>>(
+/// Takes the seats apart, into the deques and the rows of all workers.
+pub fn take_apart<J: Job, K: Batch<J>>(
     alloc: Global,
     seats: Vec<Seat<J, K>>,
 ) -> Result<(Vec<OwnDeque<J, K>>, Vec<Vec<StealPass<J, K>>>), AllocError>

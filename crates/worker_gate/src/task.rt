@@ -12,6 +12,7 @@ pub trait Batch<J> {
     ghost told: { ℕ → Type 0 };
 }
 
+/// At `Brand` the proof of each call picks the list and what the gate says. The two members here are placeholders, which no call means.
 impl<J> Batch<J> for Brand {
     ghost jobs = { [] };
 

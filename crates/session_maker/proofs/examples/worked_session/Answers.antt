@@ -2,7 +2,7 @@ use Rattle.std.proofs.Common.{refl}
 use Rattle.std.specs.Fmt.{digits}
 use Rattle.session_maker.specs.Generator.{next_number, draw, arrows, chosen}
 use Rattle.session_maker.specs.Session.{start_line, move_line, tries_line, print_line, delete_line, round_text}
-use Rattle.session_maker.proofs.worked_session.Goals as goal
+use Rattle.session_maker.proofs.examples.worked_session.Goals as goal
 
 pub returns-clause-number : goal.returns-clause-number
 unfolding next_number draw arrows chosen
