@@ -1,8 +1,7 @@
 -- Lists of handles, the arguments that they mean, and what a growing store keeps of them.
-use Rattle.std.proofs.Common.{◌≡◌, ℕ, zero, suc, ◌+◌, ◌-◌, ◌<◌, ◌≤◌, List, [], ◌∷◌, ◌++◌, length, take, drop, map, All, refl, sym, ap, ◌∙◌, arith, get_or, take-suc, ◌↔◌}
+use Rattle.std.proofs.Common.{◌≡◌, ℕ, zero, suc, ◌+◌, ◌<◌, ◌≤◌, List, [], ◌∷◌, ◌++◌, length, take, map, refl, sym, ap, ◌∙◌, arith, get_or, take-suc, ◌↔◌}
 use Rattle.std.proofs.lemmas.List.{map-append, append-nil}
-use Rattle.std.proofs.lemmas.Grind.{common_steps}
-use Rattle.ld_trees.specs.Term.{Term, Head, Srt, Var, App, Lam, Pi, Con, Terms, none, ◌▹◌, nodes, nodes_all}
+use Rattle.ld_trees.specs.Term.{Term, Head, Con, Terms, none, ◌▹◌, nodes, nodes_all}
 use Rattle.ld_terms.specs.Views.{terms_onto, terms_of}
 
 terms_onto_end : (us : Terms) (xs : List Term) (x : Term) → terms_onto us (xs ++ x ∷ []) ≡ terms_onto us xs ▹ x
@@ -35,27 +34,6 @@ part_at means (h ∷ hs) d (suc i) l = omega (arith, nodes_cons (means h) (map m
 -- the same of an element that stands there
 pub part_less : {H : Type 0} (means : H → Term) (hs : List H) (h : H) (i : ℕ) → i < length hs → h ≡ get_or hs i h → nodes (means h) ≤ nodes_all (terms_of (map means hs))
 part_less means hs h i l e = let q : nodes (means h) ≡ nodes (means (get_or hs i h)) = ap (λ x. nodes (means x)) e in omega (arith, part_at means hs h i l, q)
-
-nodes_positive : (t : Term) → 1 ≤ nodes t
-nodes_positive (Srt s) = omega arith
-nodes_positive (Var i) = omega arith
-nodes_positive (App f a) = omega arith
-nodes_positive (Lam A M) = omega arith
-nodes_positive (Pi A B) = omega arith
-nodes_positive (Con h us) = omega arith
-
-rest_cons : {X : Type 0} (x : X) (xs : List X) → take (length (x ∷ xs) - 1) (drop 1 (x ∷ xs)) ≡ xs
-rest_cons x xs = grind (arith, common_steps)
-
--- the arguments behind the first have fewer nodes, and are of the store
-pub rest_less : {H : Type 0} (means : H → Term) (hs : List H) → 0 < length hs →
-    nodes_all (terms_of (map means (take (length hs - 1) (drop 1 hs)))) < nodes_all (terms_of (map means hs))
-rest_less means [] l = absurd (omega arith)
-rest_less means (h ∷ hs) l = rw (rest_cons h hs) (omega (arith, nodes_cons (means h) (map means hs), nodes_positive (means h)))
-
-pub rest_held : {H : Type 0} (holds : H → Type 0) (hs : List H) → 0 < length hs → All holds hs → All holds (take (length hs - 1) (drop 1 hs))
-rest_held holds [] l a = absurd (omega arith)
-rest_held holds (h ∷ hs) l a = λ k d m. let m' : k < length hs = rw (rest_cons h hs) at m in rw (rest_cons h hs) (a (suc k) d (omega arith))
 
 -- arguments as a list, before others
 abbrev listed_onto : Terms → List Term → List Term

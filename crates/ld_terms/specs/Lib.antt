@@ -5,4 +5,5 @@ pub mod Items
 pub mod Places
 pub mod Nodes
 pub mod Sizes
+pub mod Spines
 pub mod Entries

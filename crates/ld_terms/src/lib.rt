@@ -13,6 +13,7 @@ mod node;
 mod same;
 mod shifting;
 mod size;
+mod spine;
 mod substitution;
 mod term;
 mod terms;

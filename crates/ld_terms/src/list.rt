@@ -40,6 +40,13 @@ impl<X> List<X> {
     {
         self.items.as_slice()
     }
+
+    /// The elements as a vector. Takes no memory.
+    pub fn into_vec(self) -> Vec<X>
+        ensures { result.items ≡ self }
+    {
+        self.items
+    }
 }
 
 impl<X: Copy> List<X> {
@@ -48,7 +55,7 @@ impl<X: Copy> List<X> {
         ensures { IfOk result (λ l. l ≡ items.now) }
     {
         let items = Vec::from_slice(alloc, items)?;
-        Ok(List { items })
+        Ok(List::of(items))
     }
 }
 

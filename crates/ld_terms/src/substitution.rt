@@ -1,9 +1,10 @@
-ghost use Rattle.std.specs.Prelude.{◌≡◌, IfOk, All, map};
-ghost use Rattle.ld_trees.specs.Term.{Var};
+ghost use Rattle.std.specs.Prelude.{◌≡◌, ◌+◌, IfOk, All, map};
+ghost use Rattle.ld_trees.specs.Term.{Var, App};
 ghost use Rattle.ld_trees.specs.Substitution as tree;
 ghost use Rattle.ld_terms.specs.Views.{Keeps, terms_of};
 
 use crate::shifting::shift;
+use crate::spine::spine_of;
 use crate::terms::Terms;
 use crate::view::View;
 use std::alloc::{AllocError, Global};
@@ -31,7 +32,7 @@ pub fn subst_all<T: Terms>(
     subst_at(alloc, terms, h, args, 0)
 }
 
-/// Puts arguments in under so many binders.
+/// Puts arguments in under so many binders, node by node.
 #[cycle(substituting)]
 fn subst_at<T: Terms>(
     alloc: Global,
@@ -47,24 +48,15 @@ fn subst_at<T: Terms>(
     ensures kept { Keeps (T.holds terms.old) (T.means terms.old) (T.holds terms.new) (T.means terms.new) }
 {
     match terms.node(h) {
-        View::Star => terms.make(alloc, View::Star),
-        View::Square => terms.make(alloc, View::Square),
+        View::Star | View::Square => Ok(h),
         View::Var(i) => subst_variable(alloc, terms, i, args, under),
-        View::App(f, a) => {
-            let f = subst_at(alloc, terms, f, args, under)?;
-            let a = subst_at(alloc, terms, a, args, under)?;
-            terms.make(alloc, View::App(f, a))
-        }
+        View::App(f, a) => subst_application(alloc, terms, f, a, args, under),
         View::Lam(a, m) => {
-            let below = under.checked_add(1).ok_or(AllocError)?;
-            let a = subst_at(alloc, terms, a, args, under)?;
-            let m = subst_at(alloc, terms, m, args, below)?;
+            let (a, m) = subst_bound(alloc, terms, a, m, args, under)?;
             terms.make(alloc, View::Lam(a, m))
         }
         View::Pi(a, b) => {
-            let below = under.checked_add(1).ok_or(AllocError)?;
-            let a = subst_at(alloc, terms, a, args, under)?;
-            let b = subst_at(alloc, terms, b, args, below)?;
+            let (a, b) = subst_bound(alloc, terms, a, b, args, under)?;
             terms.make(alloc, View::Pi(a, b))
         }
         View::Const(name, us) => {
@@ -79,6 +71,76 @@ fn subst_at<T: Terms>(
             terms.make(alloc, View::Meta(m, &us))
         }
     }
+}
+
+/// Puts arguments in, in an application.
+#[cycle(substituting)]
+fn subst_application<T: Terms>(
+    alloc: Global,
+    terms: &mut T,
+    f: T::Handle,
+    a: T::Handle,
+    args: &[T::Handle],
+    under: u32,
+) -> Result<T::Handle, AllocError>
+    requires function { T.holds terms.old f }
+    requires argument { T.holds terms.old a }
+    requires arguments { All (T.holds terms.old) args.now }
+    ensures tree { IfOk result (λ r. T.means terms.new r ≡ tree.subst_at under (terms_of (map (T.means terms.old) args.now)) (App (T.means terms.old f) (T.means terms.old a))) }
+    ensures held { IfOk result (λ r. T.holds terms.new r) }
+    ensures kept { Keeps (T.holds terms.old) (T.means terms.old) (T.holds terms.new) (T.means terms.new) }
+{
+    let f = subst_spine(alloc, terms, f, args, under)?;
+    let a = subst_at(alloc, terms, a, args, under)?;
+    terms.make(alloc, View::App(f, a))
+}
+
+/// Puts arguments in, in a head and what it is applied to, in a loop.
+#[cycle(substituting)]
+fn subst_spine<T: Terms>(
+    alloc: Global,
+    terms: &mut T,
+    h: T::Handle,
+    args: &[T::Handle],
+    under: u32,
+) -> Result<T::Handle, AllocError>
+    requires term { T.holds terms.old h }
+    requires arguments { All (T.holds terms.old) args.now }
+    ensures tree { IfOk result (λ r. T.means terms.new r ≡ tree.subst_at under (terms_of (map (T.means terms.old) args.now)) (T.means terms.old h)) }
+    ensures held { IfOk result (λ r. T.holds terms.new r) }
+    ensures kept { Keeps (T.holds terms.old) (T.means terms.old) (T.holds terms.new) (T.means terms.new) }
+{
+    let mut spine = spine_of(alloc, terms, h)?;
+    let mut made = subst_at(alloc, terms, spine.head, args, under)?;
+    while let Some(u) = spine.args.pop() {
+        let put = subst_at(alloc, terms, u, args, under)?;
+        made = terms.make(alloc, View::App(made, put))?;
+    }
+    Ok(made)
+}
+
+/// Puts arguments in, in the two parts of an abstraction or a product, of which the second one stands under its binder.
+#[cycle(substituting)]
+fn subst_bound<T: Terms>(
+    alloc: Global,
+    terms: &mut T,
+    a: T::Handle,
+    m: T::Handle,
+    args: &[T::Handle],
+    under: u32,
+) -> Result<(T::Handle, T::Handle), AllocError>
+    requires bound { T.holds terms.old a }
+    requires body { T.holds terms.old m }
+    requires arguments { All (T.holds terms.old) args.now }
+    ensures bound { IfOk result (λ r. T.means terms.new r.0 ≡ tree.subst_at under (terms_of (map (T.means terms.old) args.now)) (T.means terms.old a)) }
+    ensures body { IfOk result (λ r. T.means terms.new r.1 ≡ tree.subst_at (under + 1) (terms_of (map (T.means terms.old) args.now)) (T.means terms.old m)) }
+    ensures held { IfOk result (λ r. T.holds terms.new r.0 × T.holds terms.new r.1) }
+    ensures kept { Keeps (T.holds terms.old) (T.means terms.old) (T.holds terms.new) (T.means terms.new) }
+{
+    let below = under.checked_add(1).ok_or(AllocError)?;
+    let a = subst_at(alloc, terms, a, args, under)?;
+    let m = subst_at(alloc, terms, m, args, below)?;
+    Ok((a, m))
 }
 
 /// Puts arguments in, in each term of a list.

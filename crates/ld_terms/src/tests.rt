@@ -1,4 +1,4 @@
-ghost use Rattle.std.specs.Prelude.{IfOk, All};
+ghost use Rattle.std.specs.Prelude.{◌≡◌, IfOk, [], ◌∷◌};
 ghost use Rattle.ld_terms.specs.Views.{Keeps};
 
 use crate::name::Name;
@@ -50,6 +50,21 @@ fn applied<T: Terms>(
     terms.make(alloc, View::App(a, b))
 }
 
+/// `Lam(a, b)`.
+fn abstracted<T: Terms>(
+    alloc: Global,
+    terms: &mut T,
+    a: T::Handle,
+    b: T::Handle,
+) -> Result<T::Handle, AllocError>
+    requires left { T.holds terms.old a }
+    requires right { T.holds terms.old b }
+    ensures held { IfOk result (λ h. T.holds terms.new h) }
+    ensures kept { Keeps (T.holds terms.old) (T.means terms.old) (T.holds terms.new) (T.means terms.new) }
+{
+    terms.make(alloc, View::Lam(a, b))
+}
+
 /// `Pi(a, b)`.
 fn product<T: Terms>(
     alloc: Global,
@@ -65,18 +80,30 @@ fn product<T: Terms>(
     terms.make(alloc, View::Pi(a, b))
 }
 
-/// The constant `le` with these arguments.
+/// Two handles.
+fn two<H: Copy>(alloc: Global, a: H, b: H) -> Result<Vec<H>, AllocError>
+    ensures { IfOk result (λ v. v.items ≡ a ∷ b ∷ []) }
+{
+    let mut both = Vec::new(alloc);
+    both.push(a)?;
+    both.push(b)?;
+    Ok(both)
+}
+
+/// The constant `le` with two arguments.
 fn called<T: Terms>(
     alloc: Global,
     terms: &mut T,
-    args: &[T::Handle],
+    a: T::Handle,
+    b: T::Handle,
 ) -> Result<T::Handle, AllocError>
-    requires { All (T.holds terms.old) args.now }
+    requires left { T.holds terms.old a }
+    requires right { T.holds terms.old b }
     ensures held { IfOk result (λ h. T.holds terms.new h) }
     ensures kept { Keeps (T.holds terms.old) (T.means terms.old) (T.holds terms.new) (T.means terms.new) }
 {
     let name = Name::of(alloc, b"le")?;
-    let args = Vec::from_slice(alloc, args)?;
+    let args = two(alloc, a, b)?;
     terms.make(alloc, View::Const(&name, &args))
 }
 
@@ -93,28 +120,104 @@ fn a_product_made_twice_is_the_same(rt: HostRuntime) -> Result<(), Fail> {
     Ok(())
 }
 
+/// The metavariable 7 with two arguments.
+fn hole<T: Terms>(
+    alloc: Global,
+    terms: &mut T,
+    a: T::Handle,
+    b: T::Handle,
+) -> Result<T::Handle, AllocError>
+    requires left { T.holds terms.old a }
+    requires right { T.holds terms.old b }
+    ensures held { IfOk result (λ h. T.holds terms.new h) }
+    ensures kept { Keeps (T.holds terms.old) (T.means terms.old) (T.holds terms.new) (T.means terms.new) }
+{
+    let args = two(alloc, a, b)?;
+    terms.make(alloc, View::Meta(7, &args))
+}
+
+/// `Lam(Square, App(Var(0), a))`.
+fn abstraction_over<T: Terms>(
+    alloc: Global,
+    terms: &mut T,
+    a: T::Handle,
+) -> Result<T::Handle, AllocError>
+    requires { T.holds terms.old a }
+    ensures held { IfOk result (λ h. T.holds terms.new h) }
+    ensures kept { Keeps (T.holds terms.old) (T.means terms.old) (T.holds terms.new) (T.means terms.new) }
+{
+    let square = square(alloc, terms)?;
+    let zero = variable(alloc, terms, 0)?;
+    let body = applied(alloc, terms, zero, a)?;
+    abstracted(alloc, terms, square, body)
+}
+
+/// `App(le(Var(0), b), ?7(Star, c))`.
+fn application_over<T: Terms>(
+    alloc: Global,
+    terms: &mut T,
+    b: T::Handle,
+    c: T::Handle,
+) -> Result<T::Handle, AllocError>
+    requires left { T.holds terms.old b }
+    requires right { T.holds terms.old c }
+    ensures held { IfOk result (λ h. T.holds terms.new h) }
+    ensures kept { Keeps (T.holds terms.old) (T.means terms.old) (T.holds terms.new) (T.means terms.new) }
+{
+    let zero = variable(alloc, terms, 0)?;
+    let constant = called(alloc, terms, zero, b)?;
+    let star = star(alloc, terms)?;
+    let hole = hole(alloc, terms, star, c)?;
+    applied(alloc, terms, constant, hole)
+}
+
+/// A term with each kind of node: `Pi(Lam(Square, App(Var(0), Var(i))), App(le(Var(0), Var(j)), ?7(Star, Var(k))))`.
+fn of_all_kinds<T: Terms>(
+    alloc: Global,
+    terms: &mut T,
+    i: u32,
+    j: u32,
+    k: u32,
+) -> Result<T::Handle, AllocError>
+    ensures held { IfOk result (λ h. T.holds terms.new h) }
+    ensures kept { Keeps (T.holds terms.old) (T.means terms.old) (T.holds terms.new) (T.means terms.new) }
+{
+    let a = variable(alloc, terms, i)?;
+    let left = abstraction_over(alloc, terms, a)?;
+    let b = variable(alloc, terms, j)?;
+    let c = variable(alloc, terms, k)?;
+    let right = application_over(alloc, terms, b, c)?;
+    product(alloc, terms, left, right)
+}
+
 #[test]
-fn arguments_stand_for_the_last_variables(rt: HostRuntime) -> Result<(), Fail> {
+fn a_shift_reaches_each_kind_of_node(rt: HostRuntime) -> Result<(), Fail> {
     let mut terms = TreeTerms::new(rt.alloc())?;
-    let star = star(rt.alloc(), &mut terms)?;
-    let square = square(rt.alloc(), &mut terms)?;
-    let one = variable(rt.alloc(), &mut terms, 1)?;
-    let zero = variable(rt.alloc(), &mut terms, 0)?;
-    let body = applied(rt.alloc(), &mut terms, one, zero)?;
-    let wanted = applied(rt.alloc(), &mut terms, star, square)?;
-    let found = subst_all(rt.alloc(), &mut terms, body, &[star, square])?;
+    let term = of_all_kinds(rt.alloc(), &mut terms, 2, 1, 3)?;
+    let wanted = of_all_kinds(rt.alloc(), &mut terms, 4, 1, 5)?;
+    let found = shift(rt.alloc(), &mut terms, term, 1, 2)?;
     assert!(rt; terms.same(found, wanted));
     Ok(())
 }
 
 #[test]
-fn a_shift_adds_and_a_fork_keeps(rt: HostRuntime) -> Result<(), Fail> {
+fn arguments_reach_each_kind_of_node(rt: HostRuntime) -> Result<(), Fail> {
+    let mut terms = TreeTerms::new(rt.alloc())?;
+    let term = of_all_kinds(rt.alloc(), &mut terms, 2, 1, 3)?;
+    let wanted = of_all_kinds(rt.alloc(), &mut terms, 9, 6, 1)?;
+    let eight = variable(rt.alloc(), &mut terms, 8)?;
+    let five = variable(rt.alloc(), &mut terms, 5)?;
+    let found = subst_all(rt.alloc(), &mut terms, term, &[eight, five])?;
+    assert!(rt; terms.same(found, wanted));
+    Ok(())
+}
+
+#[test]
+fn a_fork_keeps_what_handles_mean(rt: HostRuntime) -> Result<(), Fail> {
     let mut terms = TreeTerms::new(rt.alloc())?;
     let zero = variable(rt.alloc(), &mut terms, 0)?;
     let two = variable(rt.alloc(), &mut terms, 2)?;
-    let found = shift(rt.alloc(), &mut terms, zero, 0, 2)?;
-    assert!(rt; terms.same(found, two));
-    let constant = called(rt.alloc(), &mut terms, &[zero, two])?;
+    let constant = called(rt.alloc(), &mut terms, zero, two)?;
     let forked = terms.fork(rt.alloc())?;
     assert!(rt; same_across(&terms, constant, &forked, constant));
     assert!(rt; !same_across(&terms, constant, &forked, zero));

@@ -2,11 +2,11 @@ ghost use Rattle.std.specs.Prelude.{◌≡◌, [], IfOk, ◌<◌, length, List a
 ghost use Rattle.ld_trees.specs.Term.{Term};
 ghost use Rattle.ld_terms.specs.Sizes.{IsSize, IsSizeOfAll};
 ghost use Rattle.ld_terms.specs.Entries.{AreSizes};
-ghost use Rattle.ld_terms.specs.Nodes.{tree_at};
+ghost use Rattle.ld_terms.specs.Nodes.{tree_at, IsPlace, tree_of_place};
 ghost use Rattle.ld_terms.specs.Views.{node_tree, PartsIn, terms_of};
 
 use crate::node::{Node, Place};
-use crate::same::{Look, same_looks};
+use crate::same::{Sides, same_trees};
 use crate::size::{LEAF, Size};
 use crate::terms::Terms;
 use crate::view::View;
@@ -49,20 +49,42 @@ impl TreeTerms {
             made: Vec::new(alloc),
         })
     }
+
+    /// The root of a term, with places for its parts.
+    #[tactic(auto, unfolding(crate::specs::Nodes::IsPlace, crate::specs::Nodes::tree_of_place))]
+    fn look(&self, h: Place) -> View<'_, Place>
+        requires { IsPlace self.now h }
+        ensures tree { node_tree (tree_of_place self.now) result ≡ tree_of_place self.now h }
+        ensures held { PartsIn (IsPlace self.now) result }
+    {
+        self.made[h.0].node.view()
+    }
 }
 
 #[tactic(auto, unfolding(crate::specs::Nodes::IsPlace, crate::specs::Nodes::tree_of_place))]
-impl Look for TreeTerms {
+impl Sides for TreeTerms {
     ghost use Rattle.ld_terms.specs.Nodes.{IsPlace, tree_of_place};
 
     type Handle = Place;
 
-    ghost holds = { IsPlace };
+    ghost left_holds = { IsPlace };
 
-    ghost means = { tree_of_place };
+    ghost right_holds = { IsPlace };
 
-    fn look(&self, h: Place) -> View<'_, Place> {
-        self.made[h.0].node.view()
+    ghost left_means = { tree_of_place };
+
+    ghost right_means = { tree_of_place };
+
+    fn left(&self, x: Place) -> View<'_, Place> {
+        self.look(x)
+    }
+
+    fn right(&self, y: Place) -> View<'_, Place> {
+        self.look(y)
+    }
+
+    fn is_shared(&self, x: Place, y: Place) -> bool {
+        x == y
     }
 }
 
@@ -98,7 +120,7 @@ impl Terms for TreeTerms {
     }
 
     fn same(&self, a: Place, b: Place) -> bool {
-        same_looks(self, a, self, b)
+        same_trees(self, a, b)
     }
 
     fn nodes(&self, h: Place) -> u64 {

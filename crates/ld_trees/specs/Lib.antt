@@ -1,3 +1,4 @@
 pub mod Term
 pub mod Substitution
+pub mod Scoping
 pub mod Laws

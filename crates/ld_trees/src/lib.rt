@@ -16,8 +16,9 @@ ghost use Rattle.ld_trees.specs.Laws.{
   RecursionPutsIn,
 };
 ghost use Rattle.std.specs.Prelude.{◌≡◌, false};
-ghost use Rattle.ld_trees.specs.Term.{Star, Square, Var, App, Pi, none, ◌▹◌, same, nodes, depth};
-ghost use Rattle.ld_trees.specs.Substitution.{subst_all, shift};
+ghost use Rattle.ld_trees.specs.Term.{Star, Square, Var, App, Lam, Pi, none, ◌▹◌, count, same, nodes, depth};
+ghost use Rattle.ld_trees.specs.Substitution.{weaken, subst_all, shift};
+ghost use Rattle.ld_trees.specs.Scoping.{Scoped};
 
 /// The test of equality decides whether two trees are equal.
 #[tactic(auto, using(crate::proofs::Equality::same_decides))]
@@ -67,11 +68,17 @@ pub fn recursion_puts_in()
     ensures { RecursionPutsIn }
 {}
 
-/// Worked examples of sizes, substitution and shifting, which the checker computes.
+/// Worked examples of sizes, equality, substitution, shifting and scopes, which the checker computes.
 pub fn examples_compute()
     ensures sizes { (nodes (Pi Star (Var 0)) ≡ 3) × (depth (Pi Star (Var 0)) ≡ 2) }
+    ensures number { count (none ▹ Star ▹ Square) ≡ 2 }
+    ensures different { same (App Star Square) (App Square Star) ≡ false }
     ensures arguments { subst_all (none ▹ Star ▹ Square) (App (Var 1) (Var 0)) ≡ App Star Square }
+    ensures lowered { subst_all (none ▹ Star) (Lam (Var 0) (App (Var 0) (App (Var 1) (Var 2)))) ≡ Lam Star (App (Var 0) (App Star (Var 1))) }
+    ensures captured { subst_all (none ▹ Var 3) (Pi Star (Var 1)) ≡ Pi Star (Var 4) }
+    ensures weakened { weaken (Lam (Var 0) (App (Var 0) (Var 1))) ≡ Lam (Var 1) (App (Var 0) (Var 2)) }
     ensures shifted { shift 0 2 (Var 0) ≡ Var 2 }
     ensures kept { shift 1 2 (Var 0) ≡ Var 0 }
-    ensures different { same (App Star Square) (App Square Star) ≡ false }
+    ensures scoped { Scoped 1 (Lam (Var 0) (Var 1)) }
+    ensures unscoped { Scoped 1 (Lam (Var 0) (Var 2)) → ⊥ }
 {}

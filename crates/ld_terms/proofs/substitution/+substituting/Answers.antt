@@ -1,10 +1,47 @@
 use Rattle.std.proofs.Common.{◌≡◌, ◌+◌, arith, rules, refl, ap, ap₂, map, ◌∙◌}
 use Rattle.std.proofs.lemmas.Result.{IfOk-weaker}
-use Rattle.ld_trees.specs.Term.{App, Lam, Pi}
+use Rattle.ld_trees.specs.Term.{App}
 use Rattle.ld_trees.specs.Substitution.{subst_at, substs_at}
 use Rattle.ld_terms.specs.Views.{terms_of}
-use Rattle.ld_terms.proofs.Turns.{turn, keeps_map, both_parts}
+use Rattle.ld_terms.proofs.Turns.{turn, keeps_all, keeps_map, both_parts}
+use Rattle.ld_terms.proofs.Spines.{head_no_larger, next_argument, argument_made}
 use Rattle.ld_terms.proofs.substitution.+substituting.Goals as goal
+
+pub subst_spine-subst_at-requires : goal.subst_spine-subst_at-requires
+subst_spine-subst_at-requires g t c κs within =
+    let means = g.T.Terms.means c.args.terms.now in
+    let small = head_no_larger (means c.in_ok-spine.spine.head) (means c.args.h) (map means c.in_ok-spine.spine.args.items) c.in_ok-spine.ensures.tree in
+    search rules
+
+pub subst_spine-subst_at-requires-in-Some : goal.subst_spine-subst_at-requires-in-Some
+subst_spine-subst_at-requires-in-Some g t c κs within =
+    let holds = g.T.Terms.holds in
+    let means = g.T.Terms.means in
+    let old = c.args.terms.now in
+    let before = c.loop-u.terms in
+    let f = subst_at c.args.under (terms_of (map (means old) c.args.args.now)) in
+    let next = next_argument (holds old) (means old) (holds before) (means before) f (means old c.args.h) c.loop-u.made c.loop-u.spine.args.items c.pop.new.self.items c.in-Some.u
+    c.loop-u.invariant c.in-Some.ensures.items in
+    let held = next.held in
+    let smaller = next.smaller in
+    let all = keeps_all (holds old) (means old) (holds before) (means before) c.args.args.now c.loop-u.invariant.kept c.requires.arguments in
+    search rules
+
+pub subst_spine-loop-u-preserved : goal.subst_spine-loop-u-preserved
+subst_spine-loop-u-preserved g t c =
+    let holds = g.T.Terms.holds in
+    let means = g.T.Terms.means in
+    let old = c.args.terms.now in
+    let before = c.loop-u.terms in
+    let after = c.subst_at-in-Some.new.terms in
+    let last = c.make.new.self in
+    let f = subst_at c.args.under (terms_of (map (means old) c.args.args.now)) in
+    let same = keeps_map (holds old) (means old) (holds before) (means before) c.args.args.now c.loop-u.invariant.kept c.requires.arguments in
+    let next = next_argument (holds old) (means old) (holds before) (means before) f (means old c.args.h) c.loop-u.made c.loop-u.spine.args.items c.pop.new.self.items c.in-Some.u
+    c.loop-u.invariant c.in-Some.ensures.items in
+    argument_made (holds old) (means old) (holds before) (means before) f (means old c.args.h) c.loop-u.made c.loop-u.spine.args.items c.pop.new.self.items c.in-Some.u
+    (holds after) (means after) (holds last) (means last) c.in_ok-put.put c.in_ok-made-2.made (λ t u. refl) c.loop-u.invariant c.in-Some.ensures.items
+    c.in_ok-put.ensures.kept (c.in_ok-put.ensures.tree ∙ ap₂ (λ ts t. subst_at c.args.under (terms_of ts) t) same next.alike) c.in_ok-made-2.ensures.kept c.in_ok-made-2.ensures.held c.in_ok-made-2.ensures.tree
 
 pub subst_each-loop-u-preserved : goal.subst_each-loop-u-preserved
 subst_each-loop-u-preserved g t c =
@@ -22,47 +59,28 @@ subst_each-loop-u-preserved g t c =
     c.in_ok-subst_at.ensures.kept c.in_ok-subst_at.ensures.held
     (c.in_ok-subst_at.ensures.tree ∙ ap (λ ts. subst_at d (terms_of ts) (means before c.u-item.result)) same))
 
-pub subst_at-returns-in_ok-a-in-App-clause-tree : goal.subst_at-returns-in_ok-a-in-App-clause-tree
-subst_at-returns-in_ok-a-in-App-clause-tree g t c =
+pub subst_application-returns-clause-tree : goal.subst_application-returns-clause-tree
+subst_application-returns-clause-tree g t c =
+    let holds = g.T.Terms.holds in
+    let means = g.T.Terms.means in
+    let old = c.args.terms.now in
+    let one = c.subst_spine.new.terms in
+    let two = c.subst_at.new.terms in
+    let d = c.args.under in
+    let n : d ≡ d = refl in
+    let parts = both_parts (holds old) (means old) (holds one) (means one) (holds two) (means two) c.args.args.now c.args.f c.args.a c.in_ok-f.f c.in_ok-a.a d d d n
+    c.in_ok-f.ensures.kept c.in_ok-a.ensures.kept c.requires.arguments c.requires.argument c.in_ok-f.ensures.held c.in_ok-f.ensures.tree c.in_ok-a.ensures.tree in
+    IfOk-weaker c.make.result _ (λ r. means c.make.new.self r ≡ subst_at d (terms_of (map (means old) c.args.args.now)) (App (means old c.args.f) (means old c.args.a)))
+    (λ r e. e ∙ ap₂ App parts.0 parts.1) c.make.ensures.tree
+
+pub subst_bound-returns-clause-body : goal.subst_bound-returns-clause-body
+subst_bound-returns-clause-body g t c =
     let holds = g.T.Terms.holds in
     let means = g.T.Terms.means in
     let old = c.args.terms.now in
     let one = c.subst_at.new.terms in
-    let two = c.subst_at-in-App.new.terms in
+    let two = c.subst_at-2.new.terms in
     let d = c.args.under in
-    let n : d ≡ d = refl in
-    let parts = both_parts (holds old) (means old) (holds one) (means one) (holds two) (means two) c.args.args.now c.in-App.f c.in-App.a c.in_ok-f-in-App.f c.in_ok-a-in-App.a d d d n
-    c.in_ok-f-in-App.ensures.kept c.in_ok-a-in-App.ensures.kept c.requires.arguments c.in-App.ensures.held.1 c.in_ok-f-in-App.ensures.held
-    c.in_ok-f-in-App.ensures.tree c.in_ok-a-in-App.ensures.tree in
-    IfOk-weaker c.make-in-App.result _ (λ r. g.T.Terms.means c.make-in-App.new.self r ≡ subst_at c.args.under (terms_of (map (g.T.Terms.means c.args.terms.now) c.args.args.now)) (g.T.Terms.means c.args.terms.now c.args.h))
-    (λ r e. e ∙ ap₂ App parts.0 parts.1 ∙ ap (subst_at d (terms_of (map (means old) c.args.args.now))) c.in-App.ensures.tree) c.make-in-App.ensures.tree
-
-pub subst_at-returns-in_ok-m-in-Lam-clause-tree : goal.subst_at-returns-in_ok-m-in-Lam-clause-tree
-subst_at-returns-in_ok-m-in-Lam-clause-tree g t c =
-    let holds = g.T.Terms.holds in
-    let means = g.T.Terms.means in
-    let old = c.args.terms.now in
-    let one = c.subst_at-in-Lam.new.terms in
-    let two = c.subst_at-in-Lam-2.new.terms in
-    let d = c.args.under in
-    let n : c.in_ok-below-in-Lam.below ≡ d + 1 = search rules in
-    let parts = both_parts (holds old) (means old) (holds one) (means one) (holds two) (means two) c.args.args.now c.in-Lam.a c.in-Lam.m c.in_ok-a-in-Lam.a c.in_ok-m-in-Lam.m d c.in_ok-below-in-Lam.below (d + 1) n
-    c.in_ok-a-in-Lam.ensures.kept c.in_ok-m-in-Lam.ensures.kept c.requires.arguments c.in-Lam.ensures.held.1 c.in_ok-a-in-Lam.ensures.held
-    c.in_ok-a-in-Lam.ensures.tree c.in_ok-m-in-Lam.ensures.tree in
-    IfOk-weaker c.make-in-Lam.result _ (λ r. g.T.Terms.means c.make-in-Lam.new.self r ≡ subst_at c.args.under (terms_of (map (g.T.Terms.means c.args.terms.now) c.args.args.now)) (g.T.Terms.means c.args.terms.now c.args.h))
-    (λ r e. e ∙ ap₂ Lam parts.0 parts.1 ∙ ap (subst_at d (terms_of (map (means old) c.args.args.now))) c.in-Lam.ensures.tree) c.make-in-Lam.ensures.tree
-
-pub subst_at-returns-in_ok-b-in-Pi-clause-tree : goal.subst_at-returns-in_ok-b-in-Pi-clause-tree
-subst_at-returns-in_ok-b-in-Pi-clause-tree g t c =
-    let holds = g.T.Terms.holds in
-    let means = g.T.Terms.means in
-    let old = c.args.terms.now in
-    let one = c.subst_at-in-Pi.new.terms in
-    let two = c.subst_at-in-Pi-2.new.terms in
-    let d = c.args.under in
-    let n : c.in_ok-below-in-Pi.below ≡ d + 1 = search rules in
-    let parts = both_parts (holds old) (means old) (holds one) (means one) (holds two) (means two) c.args.args.now c.in-Pi.a c.in-Pi.b c.in_ok-a-in-Pi.a c.in_ok-b-in-Pi.b d c.in_ok-below-in-Pi.below (d + 1) n
-    c.in_ok-a-in-Pi.ensures.kept c.in_ok-b-in-Pi.ensures.kept c.requires.arguments c.in-Pi.ensures.held.1 c.in_ok-a-in-Pi.ensures.held
-    c.in_ok-a-in-Pi.ensures.tree c.in_ok-b-in-Pi.ensures.tree in
-    IfOk-weaker c.make-in-Pi.result _ (λ r. g.T.Terms.means c.make-in-Pi.new.self r ≡ subst_at c.args.under (terms_of (map (g.T.Terms.means c.args.terms.now) c.args.args.now)) (g.T.Terms.means c.args.terms.now c.args.h))
-    (λ r e. e ∙ ap₂ Pi parts.0 parts.1 ∙ ap (subst_at d (terms_of (map (means old) c.args.args.now))) c.in-Pi.ensures.tree) c.make-in-Pi.ensures.tree
+    let n : c.in_ok-below.below ≡ d + 1 = search rules in
+    (both_parts (holds old) (means old) (holds one) (means one) (holds two) (means two) c.args.args.now c.args.a c.args.m c.in_ok-a.a c.in_ok-m.m d c.in_ok-below.below (d + 1) n
+    c.in_ok-a.ensures.kept c.in_ok-m.ensures.kept c.requires.arguments c.requires.body c.in_ok-a.ensures.held c.in_ok-a.ensures.tree c.in_ok-m.ensures.tree).1

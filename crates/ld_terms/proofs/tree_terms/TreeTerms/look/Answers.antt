@@ -1,7 +1,7 @@
 use Rattle.std.proofs.Common.{length, ◌∙◌}
 use Rattle.ld_terms.specs.Nodes.{IsPlace, tree_of_place, trees_of}
 use Rattle.ld_terms.proofs.EntryLaws.{entry_at}
-use Rattle.ld_terms.proofs.tree_terms.TreeTermsLook.look.Goals as goal
+use Rattle.ld_terms.proofs.tree_terms.TreeTerms.look.Goals as goal
 
 pub returns-clause-tree : goal.returns-clause-tree
 unfolding IsPlace tree_of_place
