@@ -2,6 +2,8 @@ pub mod Runs
 pub mod Heads
 pub mod Levels
 pub mod Values
+pub mod Always
+pub mod ScopedForms
 pub mod Soundness
 pub mod Plain
 pub mod Spines

@@ -3,6 +3,7 @@ use Rattle.std.specs.Prelude.{◌≡◌, ◌≢◌, ℕ, ◌-◌, ◌<◌, ◌�
 use Rattle.ld_trees.specs.Term.{Term, Srt, Var, App, Lam, Pi, Con, nodes}
 use Rattle.ld_rules.specs.Environment.{Env}
 use Rattle.ld_rules.specs.Reduction.{Equal}
+use Rattle.ld_rules.specs.ScopedItems.{IsScopedAt, HasScopedItems}
 use Rattle.conversion.specs.Runs.{Refusal, Outcome, Gave, Refused, OutOfFuel, Run}
 use Rattle.conversion.specs.WeakHead.{whnf}
 use Rattle.conversion.specs.Conversion.{conv, conv_step}
@@ -28,6 +29,10 @@ ConversionUnfolds = (Δ : Env) (a b : Term) (n : ℕ) → conv Δ a b n ≡ conv
 -- a weak head form is βδ-equal to its term
 abbrev pub WeakHeadFormIsEqual : Type 0
 WeakHeadFormIsEqual = (Δ : Env) (t t' : Term) (n left : ℕ) → whnf Δ t n ≡ Gave t' left → Equal Δ t t'
+
+-- where the items of the environment are scoped, the weak head form of a scoped term is scoped at the same depth
+abbrev pub WeakHeadFormIsScoped : Type 0
+WeakHeadFormIsScoped = (Δ : Env) (m : ℕ) (t t' : Term) (n left : ℕ) → HasScopedItems Δ → IsScopedAt Δ m t → whnf Δ t n ≡ Gave t' left → IsScopedAt Δ m t'
 
 -- a Yes of conversion means that the terms are βδ-equal
 abbrev pub YesMeansEqual : Type 0

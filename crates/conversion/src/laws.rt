@@ -9,6 +9,7 @@ ghost use Rattle.conversion.specs.Laws.{
   ConversionHasFuelLaw,
   ConversionUnfolds,
   WeakHeadFormIsEqual,
+  WeakHeadFormIsScoped,
   YesMeansEqual,
   PlainIsCheap,
 };
@@ -34,6 +35,11 @@ pub fn conversion_unfolds()
 #[tactic(auto, using(crate::proofs::Soundness::whnf_is_equal))]
 pub fn weak_head_form_is_equal()
     ensures { WeakHeadFormIsEqual }
+{}
+
+/// Where the items of the environment are scoped, the weak head form of a scoped term is scoped at the same depth.
+pub fn weak_head_form_is_scoped()
+    ensures { WeakHeadFormIsScoped }
 {}
 
 /// A Yes of conversion means that the terms are βδ-equal.

@@ -15,7 +15,8 @@ mod weak_head;
 pub use converting::conv;
 pub use laws::{
     conversion_has_fuel_law, conversion_unfolds, conversions_compute, plain_conversion_is_cheap,
-    weak_head_form_has_fuel_law, weak_head_form_is_equal, weak_head_forms_compute, yes_means_equal,
+    weak_head_form_has_fuel_law, weak_head_form_is_equal, weak_head_form_is_scoped,
+    weak_head_forms_compute, yes_means_equal,
 };
 pub use weak_head::whnf;
 

@@ -5,9 +5,13 @@ ghost use Rattle.ld_terms.specs.Views.{Keeps, terms_of};
 ghost use Rattle.conversion.specs.Globals.{AreGlobalsOf, AreLocals, context_of};
 ghost use Rattle.kernel_check.specs.Inference as tree;
 ghost use Rattle.kernel_check.specs.Answers.{Answers, sort_term};
-ghost use Rattle.kernel_check.specs.Steps.{IsRead, instance_type, reduct_checked};
+ghost use Rattle.conversion.specs.Runs.{Gave};
+ghost use Rattle.conversion.specs.Spines.{BothHeld};
+ghost use Rattle.kernel_check.specs.Steps.{IsRead, along, applied_type, instance_type, pair_trees, reduct_checked};
 
 use crate::fault::{KernelFault, or_refuse};
+use crate::signature::{arguments_of, signature_of};
+use crate::spines::spine_of;
 use crate::types::{as_product, entry_type, fit, form_of, is_square, put_in, sort_in};
 use ld_terms::{Fuel, Globals, Local, Terms, View, subst_all};
 use std::alloc::Global;
@@ -48,46 +52,8 @@ pub fn infer_in<T: Terms, G: Globals<T::Handle>>(
         View::App(f, a) => infer_application(alloc, terms, globals, fuel, types, f, a),
         View::Lam(a, m) => infer_abstraction(alloc, terms, globals, fuel, types, a, m),
         View::Pi(a, b) => infer_product(alloc, terms, globals, fuel, types, a, b),
-        View::Const(name, args) => {
-            let args = Vec::from_slice(alloc, args)?;
-            match globals.constant(name) {
-                Some(item) => infer_instance(
-                    alloc,
-                    terms,
-                    globals,
-                    fuel,
-                    types,
-                    h,
-                    &args,
-                    item.params.as_slice(),
-                    item.ty,
-                ),
-                None => Err(KernelFault::NotType {
-                    depth: types.len() as u32,
-                    term: h,
-                }),
-            }
-        }
-        View::Meta(m, args) => {
-            let args = Vec::from_slice(alloc, args)?;
-            match globals.meta(m) {
-                Some(decl) => infer_instance(
-                    alloc,
-                    terms,
-                    globals,
-                    fuel,
-                    types,
-                    h,
-                    &args,
-                    decl.ctx.as_slice(),
-                    decl.ty,
-                ),
-                None => Err(KernelFault::NotType {
-                    depth: types.len() as u32,
-                    term: h,
-                }),
-            }
-        }
+        View::Const(_, _) => infer_item(alloc, terms, globals, fuel, types, h),
+        View::Meta(_, _) => infer_item(alloc, terms, globals, fuel, types, h),
     }
 }
 
@@ -146,7 +112,7 @@ fn infer_under<T: Terms, G: Globals<T::Handle>>(
     Ok(found)
 }
 
-/// Infers the type of an application.
+/// Infers the type of an application: that of the head, and from it that of each application around it.
 #[cycle(inferring)]
 fn infer_application<T: Terms, G: Globals<T::Handle>>(
     alloc: Global,
@@ -168,7 +134,64 @@ fn infer_application<T: Terms, G: Globals<T::Handle>>(
     ensures kept { Keeps (T.holds terms.old) (T.means terms.old) (T.holds terms.new) (T.means terms.new) }
     ensures same { OnOk result (types.new.items ≡ types.old.items) }
 {
-    let function = infer_in(alloc, terms, globals, fuel, types, f)?;
+    let spine = spine_of(alloc, terms, fuel, f, a)?;
+    let found = infer_in(alloc, terms, globals, fuel, types, spine.head)?;
+    infer_along(alloc, terms, globals, fuel, types, found, spine.waiting)
+}
+
+/// Infers the type of a term from that of its head. The last application in the list is next to the head.
+#[cycle(inferring)]
+fn infer_along<T: Terms, G: Globals<T::Handle>>(
+    alloc: Global,
+    terms: &mut T,
+    globals: &G,
+    fuel: &mut Fuel,
+    types: &mut Vec<T::Handle>,
+    head: T::Handle,
+    mut waiting: Vec<(T::Handle, T::Handle)>,
+) -> Result<T::Handle, KernelFault<T::Handle>>
+    requires head { T.holds terms.old head }
+    requires waiting { All (BothHeld (T.holds terms.old)) waiting.items }
+    requires globals { AreGlobalsOf (T.holds terms.old) (G.items globals.now) (G.metas globals.now) }
+    requires types { All (T.holds terms.old) types.old.items }
+    requires room { vec_len types.old < 999999000 }
+    ensures value { (Δ : Env) (Γ : Ctx) (F : Term) → IsRead (T.means terms.old) (G.items globals.now) (G.metas globals.now) types.old.items Δ Γ → T.means terms.old head ≡ F → Answers (T.holds terms.new) (T.means terms.new) (T.means terms.new) (along Δ Γ (pair_trees (T.means terms.old) waiting.items) (Gave F fuel.old)) fuel.new result }
+    ensures held { IfOk result (λ r. T.holds terms.new r) }
+    ensures less { fuel.new ≤ fuel.old }
+    ensures kept { Keeps (T.holds terms.old) (T.means terms.old) (T.holds terms.new) (T.means terms.new) }
+    ensures same { OnOk result (types.new.items ≡ types.old.items) }
+{
+    let mut found = head;
+    while let Some(pair) = waiting.pop() {
+        found = infer_applied(alloc, terms, globals, fuel, types, found, pair.0, pair.1)?;
+    }
+    Ok(found)
+}
+
+/// Infers the type of an application from that of its function.
+#[cycle(inferring)]
+fn infer_applied<T: Terms, G: Globals<T::Handle>>(
+    alloc: Global,
+    terms: &mut T,
+    globals: &G,
+    fuel: &mut Fuel,
+    types: &mut Vec<T::Handle>,
+    function: T::Handle,
+    f: T::Handle,
+    a: T::Handle,
+) -> Result<T::Handle, KernelFault<T::Handle>>
+    requires found { T.holds terms.old function }
+    requires function { T.holds terms.old f }
+    requires argument { T.holds terms.old a }
+    requires globals { AreGlobalsOf (T.holds terms.old) (G.items globals.now) (G.metas globals.now) }
+    requires types { All (T.holds terms.old) types.old.items }
+    requires room { vec_len types.old < 999999000 }
+    ensures value { (Δ : Env) (Γ : Ctx) (S : Term) (F : Term) (A : Term) → IsRead (T.means terms.old) (G.items globals.now) (G.metas globals.now) types.old.items Δ Γ → T.means terms.old function ≡ S → T.means terms.old f ≡ F → T.means terms.old a ≡ A → Answers (T.holds terms.new) (T.means terms.new) (T.means terms.new) (applied_type Δ Γ F A S fuel.old) fuel.new result }
+    ensures held { IfOk result (λ r. T.holds terms.new r) }
+    ensures less { fuel.new ≤ fuel.old }
+    ensures kept { Keeps (T.holds terms.old) (T.means terms.old) (T.holds terms.new) (T.means terms.new) }
+    ensures same { OnOk result (types.new.items ≡ types.old.items) }
+{
     let (domain, codomain) = product_form(alloc, terms, globals, fuel, types, f, function)?;
     let found = infer_in(alloc, terms, globals, fuel, types, a)?;
     fit(
@@ -320,6 +343,46 @@ fn infer_product<T: Terms, G: Globals<T::Handle>>(
         codomain,
         found,
     )
+}
+
+/// Infers the type of a constant or a metavariable.
+#[cycle(inferring)]
+fn infer_item<T: Terms, G: Globals<T::Handle>>(
+    alloc: Global,
+    terms: &mut T,
+    globals: &G,
+    fuel: &mut Fuel,
+    types: &mut Vec<T::Handle>,
+    h: T::Handle,
+) -> Result<T::Handle, KernelFault<T::Handle>>
+    requires term { T.holds terms.old h }
+    requires globals { AreGlobalsOf (T.holds terms.old) (G.items globals.now) (G.metas globals.now) }
+    requires types { All (T.holds terms.old) types.old.items }
+    requires room { vec_len types.old < 999999000 }
+    ensures value { (Δ : Env) (Γ : Ctx) (c : Head) (us : Terms) → IsRead (T.means terms.old) (G.items globals.now) (G.metas globals.now) types.old.items Δ Γ → T.means terms.old h ≡ Con c us → Answers (T.holds terms.new) (T.means terms.new) (T.means terms.new) (tree.infer_case Δ (tree.infer Δ) Γ (Con c us) fuel.old) fuel.new result }
+    ensures held { IfOk result (λ r. T.holds terms.new r) }
+    ensures less { fuel.new ≤ fuel.old }
+    ensures kept { Keeps (T.holds terms.old) (T.means terms.old) (T.holds terms.new) (T.means terms.new) }
+    ensures same { OnOk result (types.new.items ≡ types.old.items) }
+{
+    let args = arguments_of(alloc, terms, h)?;
+    match signature_of(terms, globals, h) {
+        Some(signature) => infer_instance(
+            alloc,
+            terms,
+            globals,
+            fuel,
+            types,
+            h,
+            &args,
+            signature.0,
+            signature.1,
+        ),
+        None => Err(KernelFault::NotType {
+            depth: types.len() as u32,
+            term: h,
+        }),
+    }
 }
 
 /// Infers the type of a constant or a metavariable, which has these parameters and this type.

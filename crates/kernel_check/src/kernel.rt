@@ -1,10 +1,12 @@
-ghost use Rattle.std.specs.Prelude.{◌≡◌, ◌<◌, ◌≤◌, IfOk, length, map};
+ghost use Rattle.std.specs.Prelude.{◌≡◌, ◌<◌, ◌≤◌, IfErr, IfOk, length, map};
 ghost use Rattle.ld_rules.specs.Derivation.{Derives};
 ghost use Rattle.ld_rules.specs.Legality.{IsLegal};
+ghost use Rattle.ld_rules.specs.Scoping.{IsScoped};
 ghost use Rattle.ld_terms.specs.Views.{Keeps};
 ghost use Rattle.conversion.specs.Globals.{env_of, context_of, AreGlobalsOf, AreLocals};
 ghost use Rattle.kernel_check.specs.Inference as tree;
 ghost use Rattle.kernel_check.specs.Answers.{Answers, sort_term};
+ghost use Rattle.kernel_check.specs.ScopedFaults.{FaultIsShown};
 
 use crate::fault::KernelFault;
 use crate::inference::{infer_in, sort_of};
@@ -16,6 +18,9 @@ use std::alloc::{AllocError, Global};
 /// A refusal says why there is no type, with terms of the store, and leaves the units that the definition leaves. It is
 /// [`KernelFault::Fuel`] exactly where a unit is wanted and none is left, and the fuel is then 0. Want of memory may come at any
 /// time; a context of 999,999,000 entries or an index above 4,294,967,295, which the call would have to form, count as that.
+///
+/// Where the environment and the context are legal, the type is derived and scoped; and if the term is scoped too, the terms of a
+/// refusal are scoped at its depth, which is at least the context's length and exceeds it by less than the depth of the term.
 pub fn infer<T: Terms, G: Globals<T::Handle>>(
     alloc: Global,
     terms: &mut T,
@@ -30,6 +35,8 @@ pub fn infer<T: Terms, G: Globals<T::Handle>>(
     requires room { length ctx.now < 999999000 }
     ensures value { Answers (T.holds terms.new) (T.means terms.new) (T.means terms.new) (tree.infer (env_of (T.means terms.old) (G.items globals.now) (G.metas globals.now)) (context_of (T.means terms.old) ctx.now) (T.means terms.old h) fuel.old) fuel.new result }
     ensures derived { IsLegal (env_of (T.means terms.old) (G.items globals.now) (G.metas globals.now)) (context_of (T.means terms.old) ctx.now) → IfOk result (λ r. Derives (env_of (T.means terms.old) (G.items globals.now) (G.metas globals.now)) (context_of (T.means terms.old) ctx.now) (T.means terms.old h) (T.means terms.new r)) }
+    ensures scoped { IsLegal (env_of (T.means terms.old) (G.items globals.now) (G.metas globals.now)) (context_of (T.means terms.old) ctx.now) → IfOk result (λ r. IsScoped (env_of (T.means terms.old) (G.items globals.now) (G.metas globals.now)) (context_of (T.means terms.old) ctx.now) (T.means terms.new r)) }
+    ensures shown { IsLegal (env_of (T.means terms.old) (G.items globals.now) (G.metas globals.now)) (context_of (T.means terms.old) ctx.now) → IsScoped (env_of (T.means terms.old) (G.items globals.now) (G.metas globals.now)) (context_of (T.means terms.old) ctx.now) (T.means terms.old h) → IfErr result (FaultIsShown (T.means terms.new) (env_of (T.means terms.old) (G.items globals.now) (G.metas globals.now)) (context_of (T.means terms.old) ctx.now) (T.means terms.old h)) }
     ensures held { IfOk result (λ r. T.holds terms.new r) }
     ensures less { fuel.new ≤ fuel.old }
     ensures kept { Keeps (T.holds terms.old) (T.means terms.old) (T.holds terms.new) (T.means terms.new) }
@@ -42,7 +49,7 @@ pub fn infer<T: Terms, G: Globals<T::Handle>>(
 /// handles keep their meaning.
 ///
 /// A refusal says why there is no sort, with terms of the store, and leaves the units that the definition leaves. Fuel and want of
-/// memory are as in [`infer`].
+/// memory are as in [`infer`], and so is what holds where the environment and the context are legal.
 pub fn infer_sort<T: Terms, G: Globals<T::Handle>>(
     alloc: Global,
     terms: &mut T,
@@ -57,6 +64,8 @@ pub fn infer_sort<T: Terms, G: Globals<T::Handle>>(
     requires room { length ctx.now < 999999000 }
     ensures value { Answers (T.holds terms.new) (T.means terms.new) (T.means terms.new) (sort_term (env_of (T.means terms.old) (G.items globals.now) (G.metas globals.now)) (context_of (T.means terms.old) ctx.now) (T.means terms.old h) fuel.old) fuel.new result }
     ensures derived { IsLegal (env_of (T.means terms.old) (G.items globals.now) (G.metas globals.now)) (context_of (T.means terms.old) ctx.now) → IfOk result (λ r. Derives (env_of (T.means terms.old) (G.items globals.now) (G.metas globals.now)) (context_of (T.means terms.old) ctx.now) (T.means terms.old h) (T.means terms.new r)) }
+    ensures scoped { IsLegal (env_of (T.means terms.old) (G.items globals.now) (G.metas globals.now)) (context_of (T.means terms.old) ctx.now) → IfOk result (λ r. IsScoped (env_of (T.means terms.old) (G.items globals.now) (G.metas globals.now)) (context_of (T.means terms.old) ctx.now) (T.means terms.new r)) }
+    ensures shown { IsLegal (env_of (T.means terms.old) (G.items globals.now) (G.metas globals.now)) (context_of (T.means terms.old) ctx.now) → IsScoped (env_of (T.means terms.old) (G.items globals.now) (G.metas globals.now)) (context_of (T.means terms.old) ctx.now) (T.means terms.old h) → IfErr result (FaultIsShown (T.means terms.new) (env_of (T.means terms.old) (G.items globals.now) (G.metas globals.now)) (context_of (T.means terms.old) ctx.now) (T.means terms.old h)) }
     ensures held { IfOk result (λ r. T.holds terms.new r) }
     ensures less { fuel.new ≤ fuel.old }
     ensures kept { Keeps (T.holds terms.old) (T.means terms.old) (T.holds terms.new) (T.means terms.new) }

@@ -9,12 +9,17 @@ mod fault;
 mod inference;
 mod kernel;
 mod laws;
+mod signature;
+mod spines;
 mod types;
 
 pub use examples::inference_computes;
 pub use fault::KernelFault;
 pub use kernel::{infer, infer_sort};
-pub use laws::{inference_has_fuel_law, inference_is_sound, sort_has_fuel_law, sort_is_sound};
+pub use laws::{
+    inference_has_fuel_law, inference_is_scoped, inference_is_sound, refusals_are_scoped,
+    sort_has_fuel_law, sort_is_sound, sort_refusals_are_scoped,
+};
 
 #[cfg(test)]
 mod tests;

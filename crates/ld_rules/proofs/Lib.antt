@@ -7,6 +7,7 @@ pub mod Validity
 pub mod Environments
 pub mod Lookup
 pub mod KnownConstants
+pub mod ScopedItems
 pub mod Removal
 pub mod RemovalOfLast
 pub mod Examples

@@ -44,7 +44,7 @@ pub names_are_new : (Δ : Env) (h : Head) → (item_of h Δ ≡ None) ↔ ((d : 
 names_are_new Δ h = (new_name h Δ, no_name h Δ)
 
 -- what is found is in the environment and has the name
-is_contained : (h : Head) (Δ : Env) (d : Item) → item_of h Δ ≡ Some d → Contains Δ d × (d.name ≡ h)
+pub is_contained : (h : Head) (Δ : Env) (d : Item) → item_of h Δ ≡ Some d → Contains Δ d × (d.name ≡ h)
 is_contained h [] d p = absurd cc
 is_contained h (c ∷ Δ) d p = go (same_head h c.name) refl (is_contained h Δ d) p
   where

@@ -6,7 +6,8 @@ use Rattle.ld_rules.specs.Environment.{Ctx, Env, Item, item_of, type_at}
 use Rattle.ld_rules.specs.Reduction.{Equal, EqualAll}
 use Rattle.ld_rules.specs.Derivation.{Derives, Fits}
 use Rattle.ld_rules.specs.Legality.{IsLegal, IsLegalEnvironment, IsValid, MayBeAdded}
-use Rattle.ld_rules.specs.Scoping.{ContextScoped, AllKnown, IsScoped}
+use Rattle.ld_rules.specs.Scoping.{ContextScoped, Known, AllKnown, IsScoped}
+use Rattle.ld_rules.specs.ScopedItems.{AreScoped, EachHead, IsNameIn}
 use Rattle.ld_rules.specs.Extension.{Extends, KeepsEntries, Substitutes}
 use Rattle.ld_rules.specs.Expansion.{Bodies, BodiesScoped, expand, expand_all, body_of, Expands}
 
@@ -17,6 +18,14 @@ JudgementsAreLegal = (Δ : Env) (Γ : Ctx) (M B : Term) → Derives Δ Γ M B �
 -- what a judgement speaks of is scoped
 abbrev pub JudgementsAreScoped : Type 0
 JudgementsAreScoped = (Δ : Env) (Γ : Ctx) (M B : Term) → Derives Δ Γ M B → ContextScoped Γ × AllKnown Δ Γ × IsScoped Δ Γ M × IsScoped Δ Γ B
+
+-- the items of a legal environment and the entries of a legal context are scoped
+abbrev pub LegalIsScoped : Type 0
+LegalIsScoped = (Δ : Env) (Γ : Ctx) → IsLegal Δ Γ → AreScoped Δ Γ
+
+-- each constant of a term whose constants are known has the name of an item
+abbrev pub KnownNamesAreOfItems : Type 0
+KnownNamesAreOfItems = (Δ : Env) (t : Term) → Known Δ t → EachHead (IsNameIn Δ) t
 
 -- in a legal context each variable has its type
 abbrev pub EntriesHaveTypes : Type 0

@@ -3,6 +3,7 @@ pub mod Reduction
 pub mod Derivation
 pub mod Legality
 pub mod Scoping
+pub mod ScopedItems
 pub mod Extension
 pub mod Expansion
 pub mod Laws

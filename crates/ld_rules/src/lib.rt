@@ -9,6 +9,8 @@
 ghost use Rattle.ld_rules.specs.Laws.{
   JudgementsAreLegal,
   JudgementsAreScoped,
+  LegalIsScoped,
+  KnownNamesAreOfItems,
   EntriesHaveTypes,
   NamesAreNew,
   ItemsAreFound,
@@ -44,6 +46,17 @@ pub fn judgements_are_legal()
 /// A judgement has only variables of its context, and only constants of its environment, each with exactly one argument per parameter.
 pub fn judgements_are_scoped()
     ensures { JudgementsAreScoped }
+{}
+
+/// The items of a legal environment and the entries of a legal context are scoped.
+pub fn legal_is_scoped()
+    ensures { LegalIsScoped }
+{}
+
+/// Each constant of a term whose constants are known has the name of an item of the environment.
+#[tactic(auto, using(crate::proofs::ScopedItems::known_names))]
+pub fn known_names_are_of_items()
+    ensures { KnownNamesAreOfItems }
 {}
 
 /// In a legal context each variable has the type of its entry.

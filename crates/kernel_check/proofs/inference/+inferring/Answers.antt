@@ -1,19 +1,23 @@
-use Rattle.std.proofs.Common.{◌≡◌, ◌≢◌, ◌∙◌, ◌+◌, ◌<◌, suc, map, length, refl, sym, ap, ap₂, arith, rules, All, take, get_or, option_map, subst as transport}
+use Rattle.std.proofs.Common.{◌≡◌, ◌≢◌, ◌∙◌, ◌+◌, ◌<◌, suc, [], ◌∷◌, ◌++◌, map, length, refl, sym, ap, ap₂, arith, rules, take, get_or, Some, None, subst as transport}
 use Rattle.ld_trees.specs.Term.{Term, Named, Numbered, Square, Var, App, Lam, Pi, Con, none, ◌▹◌, count}
 use Rattle.ld_trees.specs.Substitution.{subst_all}
-use Rattle.ld_rules.specs.Environment.{item_of}
 use Rattle.ld_terms.specs.Views.{terms_of}
 use Rattle.std.proofs.lemmas.List.{take_all}
 use Rattle.std.proofs.lemmas.List.Elements.{All-take}
 use Rattle.ld_terms.proofs.Arguments.{terms_of_more}
 use Rattle.ld_terms.proofs.Turns.{keeps_both, keeps_map}
-use Rattle.conversion.specs.Globals.{AreLocals, context_of, item_tree, decl_tree}
+use Rattle.conversion.specs.Globals.{context_of}
 use Rattle.conversion.specs.Runs.{Gave, Refused, NotType, NotFunction, ReductIllTyped, pure, go_on, other_refusal}
-use Rattle.conversion.proofs.Lookups.{globals_kept, constant_found, meta_found, item_found_held, decl_found_held}
-use Rattle.kernel_check.specs.Inference.{infer, infer_sort, infer_all, infer_item, lam_type}
+use Rattle.conversion.proofs.Lookups.{globals_kept}
+use Rattle.kernel_check.specs.Inference.{infer, infer_case, infer_sort, infer_all, lam_type}
 use Rattle.kernel_check.specs.Answers.{Shows, Answers, refused_as}
 use Rattle.kernel_check.specs.declared.fault.KernelFault.TheVariants as fault
 use Rattle.kernel_check.specs.Steps.{reduct_checked}
+use Rattle.conversion.specs.Spines.{BothHeld}
+use Rattle.conversion.proofs.Spines.{all_popped}
+use Rattle.kernel_check.specs.Steps.{along, applied_type, pair_trees}
+use Rattle.kernel_check.proofs.Applications.{along_last, along_shows, trees_kept, pairs_held}
+use Rattle.kernel_check.proofs.Signatures.{item_instance, item_missing, signature_read}
 use Rattle.kernel_check.proofs.Calls.{all_shows, residual, shows_more, shows_after, answers_after, answers_after_two, sort_shows, sort_gave, refused_shows, after, entered, lam_is, no_product, checked_is, unchecked, checked, instance_is, instance_refused, read_kept, read_more, read_count, count_of}
 use Rattle.kernel_check.proofs.inference.+inferring.Goals as goal
 
@@ -164,111 +168,6 @@ infer_product-returns-clause-value g t c Δ Γ A M r p b =
     let d : count (Γ ▹ A) ≡ c.len.result + 1 = omega (arith, read_count (m s2) c.infer_under.new.types.items r2, c.len.ensures) in
     answers_after (h s3) (m s3) (m s3) (infer_sort Δ Γ A c.args.fuel.now) _ _ _ _ _ w.1
     (answers_after_two (h s3) (m s3) (m s3) _ _ _ _ _ _ _ v (c.sort_in.ensures.value Δ (Γ ▹ A) M (m s2 c.in_ok-found.found) r2.env d ((k2 c.args.codomain c.requires.codomain).1 ∙ b) refl))
-
-pub infer_application-returns-in_err-function-clause-value : goal.infer_application-returns-in_err-function-clause-value
-infer_application-returns-in_err-function-clause-value g t c Δ Γ F A r p a =
-    let h = g.T.Terms.holds in
-    let m = g.T.Terms.means in
-    let s0 = c.args.terms.now in
-    let s1 = c.infer_in.new.terms in
-    residual (h s1) (m s1) _ _ _ c.from_residual.result c.in_err-function.field-0.0 c.from_residual.ensures.1
-    (shows_more (h s1) (m s1) _ _ _ _ (c.in_err-function.ensures.value Δ Γ F r p))
-
-pub infer_application-returns-in_err-domain-clause-value : goal.infer_application-returns-in_err-domain-clause-value
-infer_application-returns-in_err-domain-clause-value g t c Δ Γ F A r p a =
-    let h = g.T.Terms.holds in
-    let m = g.T.Terms.means in
-    let s0 = c.args.terms.now in
-    let s1 = c.infer_in.new.terms in
-    let e1 = c.in_ok-function.ensures.value Δ Γ F r p in
-    let k1 = c.in_ok-function.ensures.kept in
-    let r1 = read_kept (h s0) (m s0) (h s1) (m s1) c.args.types.now.items c.infer_in.new.types.items k1 c.requires.globals c.requires.types c.in_ok-function.ensures.same r in
-    let p1 = (k1 c.args.f c.requires.function).1 ∙ p in
-    let s2 = c.product_form.new.terms in
-    residual (h s2) (m s2) _ _ _ c.from_residual-in_err-domain.result c.in_err-domain.field-0.0 c.from_residual-in_err-domain.ensures.1
-    (shows_after (h s2) (m s2) _ _ _ _ _ _ e1 (shows_more (h s2) (m s2) _ _ _ _ (c.in_err-domain.ensures.value Δ Γ F (m s1 c.in_ok-function.function) r1 p1 refl)))
-
-pub infer_application-returns-in_err-found-clause-value : goal.infer_application-returns-in_err-found-clause-value
-infer_application-returns-in_err-found-clause-value g t c Δ Γ F A r p a =
-    let h = g.T.Terms.holds in
-    let m = g.T.Terms.means in
-    let s0 = c.args.terms.now in
-    let s1 = c.infer_in.new.terms in
-    let e1 = c.in_ok-function.ensures.value Δ Γ F r p in
-    let k1 = c.in_ok-function.ensures.kept in
-    let r1 = read_kept (h s0) (m s0) (h s1) (m s1) c.args.types.now.items c.infer_in.new.types.items k1 c.requires.globals c.requires.types c.in_ok-function.ensures.same r in
-    let p1 = (k1 c.args.f c.requires.function).1 ∙ p in
-    let s2 = c.product_form.new.terms in
-    let e2 = c.in_ok-domain.ensures.value Δ Γ F (m s1 c.in_ok-function.function) r1 p1 refl in
-    let same2 = c.in_ok-domain.ensures.same ∙ c.in_ok-function.ensures.same in
-    let k2 = keeps_both (h s0) (m s0) (h s1) (m s1) (h s2) (m s2) k1 c.in_ok-domain.ensures.kept in
-    let r2 = read_kept (h s0) (m s0) (h s2) (m s2) c.args.types.now.items c.product_form.new.types.items k2 c.requires.globals c.requires.types same2 r in
-    let a2 = (k2 c.args.a c.requires.argument).1 ∙ a in
-    let s3 = c.infer_in-2.new.terms in
-    residual (h s3) (m s3) _ _ _ c.from_residual-in_err-found.result c.in_err-found.field-0.0 c.from_residual-in_err-found.ensures.1
-    (shows_after (h s3) (m s3) _ _ _ _ _ _ e1 (shows_after (h s3) (m s3) _ _ _ _ _ _ e2 (shows_more (h s3) (m s3) _ _ _ _ (c.in_err-found.ensures.value Δ Γ A r2 a2))))
-
-pub infer_application-returns-in_err-fit-clause-value : goal.infer_application-returns-in_err-fit-clause-value
-infer_application-returns-in_err-fit-clause-value g t c Δ Γ F A r p a =
-    let h = g.T.Terms.holds in
-    let m = g.T.Terms.means in
-    let s0 = c.args.terms.now in
-    let s1 = c.infer_in.new.terms in
-    let e1 = c.in_ok-function.ensures.value Δ Γ F r p in
-    let k1 = c.in_ok-function.ensures.kept in
-    let r1 = read_kept (h s0) (m s0) (h s1) (m s1) c.args.types.now.items c.infer_in.new.types.items k1 c.requires.globals c.requires.types c.in_ok-function.ensures.same r in
-    let p1 = (k1 c.args.f c.requires.function).1 ∙ p in
-    let s2 = c.product_form.new.terms in
-    let e2 = c.in_ok-domain.ensures.value Δ Γ F (m s1 c.in_ok-function.function) r1 p1 refl in
-    let same2 = c.in_ok-domain.ensures.same ∙ c.in_ok-function.ensures.same in
-    let k2 = keeps_both (h s0) (m s0) (h s1) (m s1) (h s2) (m s2) k1 c.in_ok-domain.ensures.kept in
-    let r2 = read_kept (h s0) (m s0) (h s2) (m s2) c.args.types.now.items c.product_form.new.types.items k2 c.requires.globals c.requires.types same2 r in
-    let a2 = (k2 c.args.a c.requires.argument).1 ∙ a in
-    let s3 = c.infer_in-2.new.terms in
-    let e3 = c.in_ok-found.ensures.value Δ Γ A r2 a2 in
-    let same3 = c.in_ok-found.ensures.same ∙ same2 in
-    let k3 = keeps_both (h s0) (m s0) (h s2) (m s2) (h s3) (m s3) k2 c.in_ok-found.ensures.kept in
-    let r3 = read_kept (h s0) (m s0) (h s3) (m s3) c.args.types.now.items c.infer_in-2.new.types.items k3 c.requires.globals c.requires.types same3 r in
-    let d3 : count Γ ≡ c.len.result = omega (arith, read_count (m s3) c.infer_in-2.new.types.items r3, c.len.ensures) in
-    let kd = (c.in_ok-found.ensures.kept c.in_ok-domain.domain c.in_ok-domain.ensures.held.0).1 in
-    let kc = c.in_ok-found.ensures.kept c.in_ok-domain.codomain c.in_ok-domain.ensures.held.1 in
-    let s4 = c.fit.new.terms in
-    residual (h s4) (m s4) _ _ _ c.from_residual-in_err-fit.result c.in_err-fit.field-0.0 c.from_residual-in_err-fit.ensures.1
-    (shows_after (h s4) (m s4) _ _ _ _ _ _ e1 (shows_after (h s4) (m s4) _ _ _ _ _ _ e2 (shows_after (h s4) (m s4) _ _ _ _ _ _ e3 (shows_more (h s4) (m s4) _ _ _ _ (c.in_err-fit.ensures.value Δ Γ _ _ r3.env d3 refl kd)))))
-
-pub infer_application-returns-clause-value : goal.infer_application-returns-clause-value
-infer_application-returns-clause-value g t c Δ Γ F A r p a =
-    let h = g.T.Terms.holds in
-    let m = g.T.Terms.means in
-    let s0 = c.args.terms.now in
-    let s1 = c.infer_in.new.terms in
-    let e1 = c.in_ok-function.ensures.value Δ Γ F r p in
-    let k1 = c.in_ok-function.ensures.kept in
-    let r1 = read_kept (h s0) (m s0) (h s1) (m s1) c.args.types.now.items c.infer_in.new.types.items k1 c.requires.globals c.requires.types c.in_ok-function.ensures.same r in
-    let p1 = (k1 c.args.f c.requires.function).1 ∙ p in
-    let s2 = c.product_form.new.terms in
-    let e2 = c.in_ok-domain.ensures.value Δ Γ F (m s1 c.in_ok-function.function) r1 p1 refl in
-    let same2 = c.in_ok-domain.ensures.same ∙ c.in_ok-function.ensures.same in
-    let k2 = keeps_both (h s0) (m s0) (h s1) (m s1) (h s2) (m s2) k1 c.in_ok-domain.ensures.kept in
-    let r2 = read_kept (h s0) (m s0) (h s2) (m s2) c.args.types.now.items c.product_form.new.types.items k2 c.requires.globals c.requires.types same2 r in
-    let a2 = (k2 c.args.a c.requires.argument).1 ∙ a in
-    let s3 = c.infer_in-2.new.terms in
-    let e3 = c.in_ok-found.ensures.value Δ Γ A r2 a2 in
-    let same3 = c.in_ok-found.ensures.same ∙ same2 in
-    let k3 = keeps_both (h s0) (m s0) (h s2) (m s2) (h s3) (m s3) k2 c.in_ok-found.ensures.kept in
-    let r3 = read_kept (h s0) (m s0) (h s3) (m s3) c.args.types.now.items c.infer_in-2.new.types.items k3 c.requires.globals c.requires.types same3 r in
-    let d3 : count Γ ≡ c.len.result = omega (arith, read_count (m s3) c.infer_in-2.new.types.items r3, c.len.ensures) in
-    let kd = (c.in_ok-found.ensures.kept c.in_ok-domain.domain c.in_ok-domain.ensures.held.0).1 in
-    let kc = c.in_ok-found.ensures.kept c.in_ok-domain.codomain c.in_ok-domain.ensures.held.1 in
-    let s4 = c.fit.new.terms in
-    let e4 = c.in_ok-fit.ensures.value Δ Γ _ _ r3.env d3 refl kd in
-    let k4 = keeps_both (h s0) (m s0) (h s3) (m s3) (h s4) (m s4) k3 c.in_ok-fit.ensures.kept in
-    let s5 = c.put_in.new.terms in
-    let n = c.fit.new.fuel in
-    let b4 = (c.in_ok-fit.ensures.kept c.in_ok-domain.codomain kc.0).1 ∙ kc.1 in
-    let a4 = (k4 c.args.a c.requires.argument).1 ∙ a in
-    answers_after (h s5) (m s5) (m s5) _ _ _ _ _ _ e1 (answers_after (h s5) (m s5) (m s5) _ _ _ _ _ _ e2 (answers_after (h s5) (m s5) (m s5) _ _ _ _ _ _ e3 (answers_after (h s5) (m s5) (m s5) _ _ _ _ _ _ e4
-    (transport (λ T. Answers (h s5) (m s5) (m s5) (Gave T n) n c.put_in.result) (ap₂ (λ x B. subst_all (none ▹ x) B) a4 b4) (c.put_in.ensures.value n)))))
 
 pub product_form-returns-in_err-form-clause-value : goal.product_form-returns-in_err-form-clause-value
 product_form-returns-in_err-form-clause-value g t c Δ Γ F A r p a =
@@ -427,110 +326,6 @@ infer_in-returns-in-Pi-clause-value g t c Δ Γ x r e =
     let tr = c.in-Pi.ensures.tree in
     let s1 = c.infer_product.new.terms in
     transport (λ o. Answers (h s1) (m s1) (m s1) o c.infer_product.new.fuel c.infer_product.result) (sym (entered Δ Γ x (Pi (m s0 c.in-Pi.a) (m s0 c.in-Pi.b)) c.args.fuel.now n pos one (tr ∙ e))) (c.infer_product.ensures.value Δ Γ (m s0 c.in-Pi.a) (m s0 c.in-Pi.b) r refl refl)
-
-pub infer_in-infer_instance-requires : goal.infer_in-infer_instance-requires
-infer_in-infer_instance-requires g t c κs within =
-    let h = g.T.Terms.holds in
-    let s0 = c.args.terms.now in
-    let items = g.G.Globals.items c.args.globals.now in
-    let metas = g.G.Globals.metas c.args.globals.now in
-    let nm = c.in-Const.name.now in
-    let found = sym c.in-Some.ensures in
-    let it = item_found_held (h s0) items nm c.in-Some.item.now c.requires.globals.items_held found in
-    let qa : c.deref-in-Some.result.now ≡ c.in-Const.args.now = search rules in
-    let qp : c.as_slice.result.now ≡ c.in-Some.item.now.params = search rules in
-    (search rules, (within.0, (within.1.0, (within.1.1, (c.requires.term, (transport (All (h s0)) (sym qa) c.in-Const.ensures.held, (transport (AreLocals (h s0)) (sym qp) it.params, (it.ty, (c.requires.globals, (c.requires.types, c.requires.room))))))))))
-
-pub infer_in-returns-in-Some-clause-value : goal.infer_in-returns-in-Some-clause-value
-infer_in-returns-in-Some-clause-value g t c Δ Γ x r e =
-    let h = g.T.Terms.holds in
-    let m = g.T.Terms.means in
-    let s0 = c.args.terms.now in
-    let pos : 0 < c.args.fuel.now = search rules in
-    let one = c.if-not-spend.ensures.rest in
-    let items = g.G.Globals.items c.args.globals.now in
-    let metas = g.G.Globals.metas c.args.globals.now in
-    let nm = c.in-Const.name.now in
-    let n = c.spend.new.self in
-    let tr = c.in-Const.ensures.tree in
-    let us = terms_of (map (m s0) c.in-Const.args.now) in
-    let found = sym c.in-Some.ensures in
-    let fnd = ap (item_of (Named nm)) (sym r.env) ∙ constant_found (m s0) items metas nm ∙ ap (option_map (item_tree (m s0))) found in
-    let s1 = c.infer_instance.new.terms in
-    let qa : c.deref-in-Some.result.now ≡ c.in-Const.args.now = search rules in
-    let qp : c.as_slice.result.now ≡ c.in-Some.item.now.params = search rules in
-    transport (λ o. Answers (h s1) (m s1) (m s1) o c.infer_instance.new.fuel c.infer_instance.result) (sym (entered Δ Γ x (Con (Named nm) us) c.args.fuel.now n pos one (tr ∙ e) ∙ ap (λ o. infer_item Δ (infer Δ) Γ (Named nm) us o n) fnd))
-    (c.infer_instance.ensures.value Δ Γ (Named nm) us (context_of (m s0) c.in-Some.item.now.params) (m s0 c.in-Some.item.now.ty) r (sym tr) (ap (λ l. terms_of (map (m s0) l)) qa) (ap (context_of (m s0)) qp) refl)
-
-pub infer_in-returns-in-Const-clause-value : goal.infer_in-returns-in-Const-clause-value
-infer_in-returns-in-Const-clause-value g t c Δ Γ x r e =
-    let h = g.T.Terms.holds in
-    let m = g.T.Terms.means in
-    let s0 = c.args.terms.now in
-    let pos : 0 < c.args.fuel.now = search rules in
-    let one = c.if-not-spend.ensures.rest in
-    let items = g.G.Globals.items c.args.globals.now in
-    let metas = g.G.Globals.metas c.args.globals.now in
-    let nm = c.in-Const.name.now in
-    let n = c.spend.new.self in
-    let tr = c.in-Const.ensures.tree in
-    let us = terms_of (map (m s0) c.in-Const.args.now) in
-    let found = sym c.in-None.ensures in
-    let fnd = ap (item_of (Named nm)) (sym r.env) ∙ constant_found (m s0) items metas nm ∙ ap (option_map (item_tree (m s0))) found in
-    let d : count Γ ≡ c.len-in-None.result = omega (arith, read_count (m s0) c.args.types.now.items r, c.len-in-None.ensures) in
-    (entered Δ Γ x (Con (Named nm) us) c.args.fuel.now n pos one (tr ∙ e) ∙ ap (λ o. infer_item Δ (infer Δ) Γ (Named nm) us o n) fnd ∙ ap (λ k. Refused (NotType k (Con (Named nm) us)) n) d ∙ ap (λ y. Refused (NotType c.len-in-None.result y) n) tr, c.requires.term)
-
-pub infer_in-infer_instance-requires-in-Some-meta : goal.infer_in-infer_instance-requires-in-Some-meta
-infer_in-infer_instance-requires-in-Some-meta g t c κs within =
-    let h = g.T.Terms.holds in
-    let s0 = c.args.terms.now in
-    let items = g.G.Globals.items c.args.globals.now in
-    let metas = g.G.Globals.metas c.args.globals.now in
-    let nm = c.in-Meta.m in
-    let found = sym c.in-Some-meta.ensures in
-    let it = decl_found_held (h s0) metas nm c.in-Some-meta.decl.now c.requires.globals.metas_held found in
-    let qa : c.deref-in-Some-meta.result.now ≡ c.in-Meta.args.now = search rules in
-    let qp : c.as_slice-in-Some-meta.result.now ≡ c.in-Some-meta.decl.now.ctx = search rules in
-    (search rules, (within.0, (within.1.0, (within.1.1, (c.requires.term, (transport (All (h s0)) (sym qa) c.in-Meta.ensures.held, (transport (AreLocals (h s0)) (sym qp) it.ctx, (it.ty, (c.requires.globals, (c.requires.types, c.requires.room))))))))))
-
-pub infer_in-returns-in-Some-meta-clause-value : goal.infer_in-returns-in-Some-meta-clause-value
-infer_in-returns-in-Some-meta-clause-value g t c Δ Γ x r e =
-    let h = g.T.Terms.holds in
-    let m = g.T.Terms.means in
-    let s0 = c.args.terms.now in
-    let pos : 0 < c.args.fuel.now = search rules in
-    let one = c.if-not-spend.ensures.rest in
-    let items = g.G.Globals.items c.args.globals.now in
-    let metas = g.G.Globals.metas c.args.globals.now in
-    let nm = c.in-Meta.m in
-    let n = c.spend.new.self in
-    let tr = c.in-Meta.ensures.tree in
-    let us = terms_of (map (m s0) c.in-Meta.args.now) in
-    let found = sym c.in-Some-meta.ensures in
-    let fnd = ap (item_of (Numbered nm)) (sym r.env) ∙ meta_found (m s0) items metas nm ∙ ap (option_map (decl_tree (m s0) nm)) found in
-    let s1 = c.infer_instance-in-Some-meta.new.terms in
-    let qa : c.deref-in-Some-meta.result.now ≡ c.in-Meta.args.now = search rules in
-    let qp : c.as_slice-in-Some-meta.result.now ≡ c.in-Some-meta.decl.now.ctx = search rules in
-    transport (λ o. Answers (h s1) (m s1) (m s1) o c.infer_instance-in-Some-meta.new.fuel c.infer_instance-in-Some-meta.result) (sym (entered Δ Γ x (Con (Numbered nm) us) c.args.fuel.now n pos one (tr ∙ e) ∙ ap (λ o. infer_item Δ (infer Δ) Γ (Numbered nm) us o n) fnd))
-    (c.infer_instance-in-Some-meta.ensures.value Δ Γ (Numbered nm) us (context_of (m s0) c.in-Some-meta.decl.now.ctx) (m s0 c.in-Some-meta.decl.now.ty) r (sym tr) (ap (λ l. terms_of (map (m s0) l)) qa) (ap (context_of (m s0)) qp) refl)
-
-pub infer_in-returns-clause-value : goal.infer_in-returns-clause-value
-infer_in-returns-clause-value g t c Δ Γ x r e =
-    let h = g.T.Terms.holds in
-    let m = g.T.Terms.means in
-    let s0 = c.args.terms.now in
-    let pos : 0 < c.args.fuel.now = search rules in
-    let one = c.if-not-spend.ensures.rest in
-    let items = g.G.Globals.items c.args.globals.now in
-    let metas = g.G.Globals.metas c.args.globals.now in
-    let nm = c.in-Meta.m in
-    let n = c.spend.new.self in
-    let tr = c.in-Meta.ensures.tree in
-    let us = terms_of (map (m s0) c.in-Meta.args.now) in
-    let found = sym c.in-None-meta.ensures in
-    let fnd = ap (item_of (Numbered nm)) (sym r.env) ∙ meta_found (m s0) items metas nm ∙ ap (option_map (decl_tree (m s0) nm)) found in
-    let d : count Γ ≡ c.len-in-None-meta.result = omega (arith, read_count (m s0) c.args.types.now.items r, c.len-in-None-meta.ensures) in
-    (entered Δ Γ x (Con (Numbered nm) us) c.args.fuel.now n pos one (tr ∙ e) ∙ ap (λ o. infer_item Δ (infer Δ) Γ (Numbered nm) us o n) fnd ∙ ap (λ k. Refused (NotType k (Con (Numbered nm) us)) n) d ∙ ap (λ y. Refused (NotType c.len-in-None-meta.result y) n) tr, c.requires.term)
 
 pub infer_instance-returns-then-args-params-clause-value : goal.infer_instance-returns-then-args-params-clause-value
 infer_instance-returns-then-args-params-clause-value g t c Δ Γ k us ps S r p q u v =
@@ -703,3 +498,215 @@ infer_arguments-returns-clause-value g t c Δ Γ us ps r q v =
     let ex = take_all c.loop-k.k xs c.loop-k-test.false in
     let ey = take_all c.loop-k.k ys (omega (arith, c.loop-k-test.false, c.requires.count)) in
     ap₂ (λ x y. infer_all Δ (infer Δ) Γ x y c.args.fuel.now) (sym q ∙ sym (ap (λ l. terms_of (map (m s0) l)) ex)) (sym v ∙ sym (ap (context_of (m s0)) ey)) ∙ inv.value Δ Γ r
+
+pub infer_application-returns-in_err-spine-clause-value : goal.infer_application-returns-in_err-spine-clause-value
+infer_application-returns-in_err-spine-clause-value g t c Δ Γ F A r p a =
+    let h = g.T.Terms.holds c.args.terms.now in
+    let m = g.T.Terms.means c.args.terms.now in
+    let e = c.in_err-spine.field-0.0 in
+    residual h m m _ _ c.from_residual.result e c.from_residual.ensures.1
+    (transport (λ x. Shows h m (infer_case Δ (infer Δ) Γ x c.args.fuel.now) c.spine_of.new.fuel e) (ap₂ App p a) (c.in_err-spine.ensures.fault Δ Γ))
+
+pub infer_application-returns-in_err-found-clause-value : goal.infer_application-returns-in_err-found-clause-value
+infer_application-returns-in_err-found-clause-value g t c Δ Γ F A r p a =
+    let h = g.T.Terms.holds in
+    let m = g.T.Terms.means in
+    let s0 = c.args.terms.now in
+    let s1 = c.infer_in.new.terms in
+    let n = c.infer_in.new.fuel in
+    let e = c.in_err-found.field-0.0 in
+    let w = c.in_ok-spine.spine.waiting.items in
+    let head = m s0 c.in_ok-spine.spine.head in
+    residual (h s1) (m s1) _ _ _ c.from_residual-in_err-found.result e c.from_residual-in_err-found.ensures.1
+    (transport (λ o. Shows (h s1) (m s1) o n e) (sym (ap (λ x. infer_case Δ (infer Δ) Γ x c.args.fuel.now) (sym (ap₂ App p a)) ∙ c.in_ok-spine.ensures.spine Δ Γ))
+    (along_shows (h s1) (m s1) Δ Γ (pair_trees (m s0) w) (infer Δ Γ head c.spine_of.new.fuel) n e (c.in_err-found.ensures.value Δ Γ head r refl)))
+
+pub infer_application-infer_along-requires : goal.infer_application-infer_along-requires
+infer_application-infer_along-requires g t c κs within =
+    let h = g.T.Terms.holds in
+    let m = g.T.Terms.means in
+    let waiting = pairs_held (h c.args.terms.now) (m c.args.terms.now) (h c.infer_in.new.terms) (m c.infer_in.new.terms) c.in_ok-found.ensures.kept c.in_ok-spine.spine.waiting.items c.in_ok-spine.ensures.waiting in
+    (search rules, (within.0, (within.1.0, (within.1.1, (c.in_ok-found.ensures.held, (waiting, (search rules, (search rules, search rules))))))))
+
+pub infer_along-returns-in_err-found-clause-value : goal.infer_along-returns-in_err-found-clause-value
+infer_along-returns-in_err-found-clause-value g t c Δ Γ F r q =
+    let h = g.T.Terms.holds in
+    let m = g.T.Terms.means in
+    let s0 = c.args.terms.now in
+    let sl = c.loop-pair.terms in
+    let s1 = c.infer_applied.new.terms in
+    let inv = c.loop-pair.invariant in
+    let f = c.in-Some.pair.0 in
+    let a = c.in-Some.pair.1 in
+    let rest = c.pop.new.self.items in
+    let items : c.loop-pair.waiting.items ≡ rest ++ (f, a) ∷ [] = c.in-Some.ensures.items in
+    let held = all_popped (BothHeld (h s0)) c.loop-pair.waiting.items rest (f, a) items inv.waiting_held in
+    let rl = read_kept (h s0) (m s0) (h sl) (m sl) c.args.types.now.items c.loop-pair.types.items inv.kept c.requires.globals c.requires.types inv.same r in
+    let T = m sl c.loop-pair.found in
+    let n = c.infer_applied.new.fuel in
+    let e = c.in_err-found.field-0.0 in
+    let turn = ap (λ x. along Δ Γ (pair_trees (m s0) c.args.waiting.items) (Gave x c.args.fuel.now)) (sym q) ∙ inv.value Δ Γ r ∙ along_last (m s0) Δ Γ rest c.loop-pair.waiting.items f a (Gave T c.loop-pair.fuel) items in
+    let shows = c.in_err-found.ensures.value Δ Γ T (m s0 f) (m s0 a) rl refl (inv.kept f held.1.0).1 (inv.kept a held.1.1).1 in
+    residual (h s1) (m s1) _ _ _ c.from_residual.result e c.from_residual.ensures.1
+    (transport (λ o. Shows (h s1) (m s1) o n e) (sym turn) (along_shows (h s1) (m s1) Δ Γ (pair_trees (m s0) rest) (applied_type Δ Γ (m s0 f) (m s0 a) T c.loop-pair.fuel) n e shows))
+
+pub infer_along-loop-pair-preserved : goal.infer_along-loop-pair-preserved
+infer_along-loop-pair-preserved g t c =
+    let h = g.T.Terms.holds in
+    let m = g.T.Terms.means in
+    let s0 = c.args.terms.now in
+    let sl = c.loop-pair.terms in
+    let s1 = c.infer_applied.new.terms in
+    let inv = c.loop-pair.invariant in
+    let f = c.in-Some.pair.0 in
+    let a = c.in-Some.pair.1 in
+    let rest = c.pop.new.self.items in
+    let items : c.loop-pair.waiting.items ≡ rest ++ (f, a) ∷ [] = c.in-Some.ensures.items in
+    let held = all_popped (BothHeld (h s0)) c.loop-pair.waiting.items rest (f, a) items inv.waiting_held in
+    record {
+      kept = keeps_both (h s0) (m s0) (h sl) (m sl) (h s1) (m s1) inv.kept c.in_ok-found.ensures.kept;
+      less = omega (arith, inv.less, c.in_ok-found.ensures.less);
+      same = c.in_ok-found.ensures.same ∙ inv.same;
+      found_held = c.in_ok-found.ensures.held;
+      waiting_held = held.0;
+      value = λ Δ Γ r.
+          let rl = read_kept (h s0) (m s0) (h sl) (m sl) c.args.types.now.items c.loop-pair.types.items inv.kept c.requires.globals c.requires.types inv.same r in
+          let T = m sl c.loop-pair.found in
+          inv.value Δ Γ r ∙ along_last (m s0) Δ Γ rest c.loop-pair.waiting.items f a (Gave T c.loop-pair.fuel) items
+          ∙ ap (along Δ Γ (pair_trees (m s0) rest)) (c.in_ok-found.ensures.value Δ Γ T (m s0 f) (m s0 a) rl refl (inv.kept f held.1.0).1 (inv.kept a held.1.1).1);
+    }
+
+pub infer_in-returns-in-Const-clause-value : goal.infer_in-returns-in-Const-clause-value
+infer_in-returns-in-Const-clause-value g t c Δ Γ x r e =
+    let h = g.T.Terms.holds in
+    let m = g.T.Terms.means in
+    let pos : 0 < c.args.fuel.now = search rules in
+    let n = c.spend.new.self in
+    let tr = c.in-Const.ensures.tree in
+    let name = Named c.in-Const.field-0.now in
+    let us = terms_of (map (m c.args.terms.now) c.in-Const.field-1.now) in
+    let s1 = c.infer_item.new.terms in
+    transport (λ o. Answers (h s1) (m s1) (m s1) o c.infer_item.new.fuel c.infer_item.result) (sym (entered Δ Γ x (Con name us) c.args.fuel.now n pos c.if-not-spend.ensures.rest (tr ∙ e)))
+    (c.infer_item.ensures.value Δ Γ name us r (sym tr))
+
+pub infer_in-returns-in-Meta-clause-value : goal.infer_in-returns-in-Meta-clause-value
+infer_in-returns-in-Meta-clause-value g t c Δ Γ x r e =
+    let h = g.T.Terms.holds in
+    let m = g.T.Terms.means in
+    let pos : 0 < c.args.fuel.now = search rules in
+    let n = c.spend.new.self in
+    let tr = c.in-Meta.ensures.tree in
+    let name = Numbered c.in-Meta.field-0 in
+    let us = terms_of (map (m c.args.terms.now) c.in-Meta.field-1.now) in
+    let s1 = c.infer_item-in-Meta.new.terms in
+    transport (λ o. Answers (h s1) (m s1) (m s1) o c.infer_item-in-Meta.new.fuel c.infer_item-in-Meta.result) (sym (entered Δ Γ x (Con name us) c.args.fuel.now n pos c.if-not-spend.ensures.rest (tr ∙ e)))
+    (c.infer_item-in-Meta.ensures.value Δ Γ name us r (sym tr))
+
+pub infer_application-returns-clause-value : goal.infer_application-returns-clause-value
+infer_application-returns-clause-value g t c Δ Γ F A r p a =
+    let h = g.T.Terms.holds in
+    let m = g.T.Terms.means in
+    let s0 = c.args.terms.now in
+    let s1 = c.infer_in.new.terms in
+    let s2 = c.infer_along.new.terms in
+    let w = c.in_ok-spine.spine.waiting.items in
+    let head = m s0 c.in_ok-spine.spine.head in
+    let T = m s1 c.in_ok-found.found in
+    let k1 = c.in_ok-found.ensures.kept in
+    let r1 = read_kept (h s0) (m s0) (h s1) (m s1) c.args.types.now.items c.infer_in.new.types.items k1 c.requires.globals c.requires.types c.in_ok-found.ensures.same r in
+    let same = ap (λ x. infer_case Δ (infer Δ) Γ x c.args.fuel.now) (sym (ap₂ App p a)) ∙ c.in_ok-spine.ensures.spine Δ Γ
+    ∙ ap (along Δ Γ (pair_trees (m s0) w)) (c.in_ok-found.ensures.value Δ Γ head r refl)
+    ∙ ap (λ ps. along Δ Γ ps (Gave T c.infer_in.new.fuel)) (sym (trees_kept (h s0) (m s0) (h s1) (m s1) k1 w c.in_ok-spine.ensures.waiting)) in
+    transport (λ o. Answers (h s2) (m s2) (m s2) o c.infer_along.new.fuel c.infer_along.result) (sym same) (c.infer_along.ensures.value Δ Γ T r1 refl)
+
+pub infer_applied-returns-in_err-domain-clause-value : goal.infer_applied-returns-in_err-domain-clause-value
+infer_applied-returns-in_err-domain-clause-value g t c Δ Γ S F A r w p a =
+    let h = g.T.Terms.holds in
+    let m = g.T.Terms.means in
+    let s1 = c.product_form.new.terms in
+    residual (h s1) (m s1) _ _ _ c.from_residual.result c.in_err-domain.field-0.0 c.from_residual.ensures.1
+    (shows_more (h s1) (m s1) _ _ _ _ (c.in_err-domain.ensures.value Δ Γ F S r p w))
+
+pub infer_applied-returns-in_err-found-clause-value : goal.infer_applied-returns-in_err-found-clause-value
+infer_applied-returns-in_err-found-clause-value g t c Δ Γ S F A r w p a =
+    let h = g.T.Terms.holds in
+    let m = g.T.Terms.means in
+    let s0 = c.args.terms.now in
+    let s1 = c.product_form.new.terms in
+    let e1 = c.in_ok-domain.ensures.value Δ Γ F S r p w in
+    let k1 = c.in_ok-domain.ensures.kept in
+    let r1 = read_kept (h s0) (m s0) (h s1) (m s1) c.args.types.now.items c.product_form.new.types.items k1 c.requires.globals c.requires.types c.in_ok-domain.ensures.same r in
+    let a1 = (k1 c.args.a c.requires.argument).1 ∙ a in
+    let s2 = c.infer_in.new.terms in
+    residual (h s2) (m s2) _ _ _ c.from_residual-in_err-found.result c.in_err-found.field-0.0 c.from_residual-in_err-found.ensures.1
+    (shows_after (h s2) (m s2) _ _ _ _ _ _ e1 (shows_more (h s2) (m s2) _ _ _ _ (c.in_err-found.ensures.value Δ Γ A r1 a1)))
+
+pub infer_applied-returns-in_err-fit-clause-value : goal.infer_applied-returns-in_err-fit-clause-value
+infer_applied-returns-in_err-fit-clause-value g t c Δ Γ S F A r w p a =
+    let h = g.T.Terms.holds in
+    let m = g.T.Terms.means in
+    let s0 = c.args.terms.now in
+    let s1 = c.product_form.new.terms in
+    let e1 = c.in_ok-domain.ensures.value Δ Γ F S r p w in
+    let k1 = c.in_ok-domain.ensures.kept in
+    let r1 = read_kept (h s0) (m s0) (h s1) (m s1) c.args.types.now.items c.product_form.new.types.items k1 c.requires.globals c.requires.types c.in_ok-domain.ensures.same r in
+    let a1 = (k1 c.args.a c.requires.argument).1 ∙ a in
+    let s2 = c.infer_in.new.terms in
+    let e2 = c.in_ok-found.ensures.value Δ Γ A r1 a1 in
+    let k2 = keeps_both (h s0) (m s0) (h s1) (m s1) (h s2) (m s2) k1 c.in_ok-found.ensures.kept in
+    let r2 = read_kept (h s0) (m s0) (h s2) (m s2) c.args.types.now.items c.infer_in.new.types.items k2 c.requires.globals c.requires.types (c.in_ok-found.ensures.same ∙ c.in_ok-domain.ensures.same) r in
+    let d2 : count Γ ≡ c.len.result = omega (arith, read_count (m s2) c.infer_in.new.types.items r2, c.len.ensures) in
+    let kd = (c.in_ok-found.ensures.kept c.in_ok-domain.domain c.in_ok-domain.ensures.held.0).1 in
+    let s3 = c.fit.new.terms in
+    residual (h s3) (m s3) _ _ _ c.from_residual-in_err-fit.result c.in_err-fit.field-0.0 c.from_residual-in_err-fit.ensures.1
+    (shows_after (h s3) (m s3) _ _ _ _ _ _ e1 (shows_after (h s3) (m s3) _ _ _ _ _ _ e2 (shows_more (h s3) (m s3) _ _ _ _ (c.in_err-fit.ensures.value Δ Γ _ _ r2.env d2 refl kd))))
+
+pub infer_applied-returns-clause-value : goal.infer_applied-returns-clause-value
+infer_applied-returns-clause-value g t c Δ Γ S F A r w p a =
+    let h = g.T.Terms.holds in
+    let m = g.T.Terms.means in
+    let s0 = c.args.terms.now in
+    let s1 = c.product_form.new.terms in
+    let e1 = c.in_ok-domain.ensures.value Δ Γ F S r p w in
+    let k1 = c.in_ok-domain.ensures.kept in
+    let r1 = read_kept (h s0) (m s0) (h s1) (m s1) c.args.types.now.items c.product_form.new.types.items k1 c.requires.globals c.requires.types c.in_ok-domain.ensures.same r in
+    let a1 = (k1 c.args.a c.requires.argument).1 ∙ a in
+    let s2 = c.infer_in.new.terms in
+    let e2 = c.in_ok-found.ensures.value Δ Γ A r1 a1 in
+    let k2 = keeps_both (h s0) (m s0) (h s1) (m s1) (h s2) (m s2) k1 c.in_ok-found.ensures.kept in
+    let r2 = read_kept (h s0) (m s0) (h s2) (m s2) c.args.types.now.items c.infer_in.new.types.items k2 c.requires.globals c.requires.types (c.in_ok-found.ensures.same ∙ c.in_ok-domain.ensures.same) r in
+    let d2 : count Γ ≡ c.len.result = omega (arith, read_count (m s2) c.infer_in.new.types.items r2, c.len.ensures) in
+    let kd = (c.in_ok-found.ensures.kept c.in_ok-domain.domain c.in_ok-domain.ensures.held.0).1 in
+    let kc = c.in_ok-found.ensures.kept c.in_ok-domain.codomain c.in_ok-domain.ensures.held.1 in
+    let s3 = c.fit.new.terms in
+    let e3 = c.in_ok-fit.ensures.value Δ Γ _ _ r2.env d2 refl kd in
+    let k3 = keeps_both (h s0) (m s0) (h s2) (m s2) (h s3) (m s3) k2 c.in_ok-fit.ensures.kept in
+    let s4 = c.put_in.new.terms in
+    let n = c.fit.new.fuel in
+    let b3 = (c.in_ok-fit.ensures.kept c.in_ok-domain.codomain kc.0).1 ∙ kc.1 in
+    let a3 = (k3 c.args.a c.requires.argument).1 ∙ a in
+    answers_after (h s4) (m s4) (m s4) _ _ _ _ _ _ e1 (answers_after (h s4) (m s4) (m s4) _ _ _ _ _ _ e2 (answers_after (h s4) (m s4) (m s4) _ _ _ _ _ _ e3
+    (transport (λ T. Answers (h s4) (m s4) (m s4) (Gave T n) n c.put_in.result) (ap₂ (λ x B. subst_all (none ▹ x) B) a3 b3) (c.put_in.ensures.value n))))
+
+pub infer_item-returns-in-Some-clause-value : goal.infer_item-returns-in-Some-clause-value
+infer_item-returns-in-Some-clause-value g t c Δ Γ k us r e =
+    let h = g.T.Terms.holds in
+    let m = g.T.Terms.means in
+    let s0 = c.args.terms.now in
+    let s1 = c.infer_instance.new.terms in
+    let n = c.args.fuel.now in
+    let ps = context_of (m s0) c.in-Some.signature.0.now in
+    let T = m s0 c.in-Some.signature.1 in
+    let q = signature_read (m s0) c.args.h Δ _ k us (Some (ps, T)) c.in-Some.ensures.signature r.env e in
+    let qa : c.deref.result.now ≡ c.in_ok-args.args.items = search rules in
+    let args = ap (λ l. terms_of (map (m s0) l)) qa ∙ c.in_ok-args.ensures.arguments k us e in
+    transport (λ o. Answers (h s1) (m s1) (m s1) o c.infer_instance.new.fuel c.infer_instance.result) (sym (item_instance Δ Γ k us n (ps, T) q))
+    (c.infer_instance.ensures.value Δ Γ k us ps T r e args refl refl)
+
+pub infer_item-returns-clause-value : goal.infer_item-returns-clause-value
+infer_item-returns-clause-value g t c Δ Γ k us r e =
+    let m = g.T.Terms.means c.args.terms.now in
+    let n = c.args.fuel.now in
+    let q = signature_read m c.args.h Δ _ k us None c.in-None.ensures.signature r.env e in
+    let d : count Γ ≡ c.len.result = omega (arith, read_count m c.args.types.now.items r, c.len.ensures) in
+    (item_missing Δ Γ k us n q ∙ ap (λ i. Refused (NotType i (Con k us)) n) d ∙ ap (λ y. Refused (NotType c.len.result y) n) (sym e), c.requires.term)

@@ -1,6 +1,7 @@
 use Rattle.std.proofs.Common.{◌∙◌, map, refl, ap}
 use Rattle.ld_terms.specs.Views.{terms_of}
 use Rattle.kernel_check.proofs.Calls.{sort_derives, types_held, types_of_context}
+use Rattle.kernel_check.proofs.ScopedCalls.{derived_scoped, sort_shown}
 use Rattle.kernel_check.proofs.kernel.infer_sort.Goals as goal
 
 pub returns-clause-value : goal.returns-clause-value
@@ -17,3 +18,9 @@ returns-clause-derived g c =
 
 pub sort_of-requires-clause-types : goal.sort_of-requires-clause-types
 sort_of-requires-clause-types g c = types_held (g.T.Terms.holds c.args.terms.now) c.args.ctx.now c.in_ok-types.types.items c.in_ok-types.ensures c.requires.context
+
+pub returns-clause-scoped : goal.returns-clause-scoped
+returns-clause-scoped g c ok = derived_scoped (g.T.Terms.holds c.sort_of.new.terms) (g.T.Terms.means c.sort_of.new.terms) _ _ _ _ (returns-clause-derived g c ok)
+
+pub returns-clause-shown : goal.returns-clause-shown
+returns-clause-shown g c = sort_shown (g.T.Terms.holds c.sort_of.new.terms) (g.T.Terms.means c.sort_of.new.terms) _ _ _ _ _ _ (returns-clause-value g c)
