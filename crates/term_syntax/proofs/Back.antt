@@ -2,16 +2,15 @@
 use Rattle.std.proofs.Common.{◌≡◌, ℕ, suc, ◌+◌, ◌^◌, ◌<◌, ◌≤◌, cond, List, [], ◌∷◌, ◌++◌, length, slice_index, map, Some, None, Ok, refl, ap, ◌∙◌, arith, subst, append_assoc}
 use Rattle.std.specs.Prelude.{◌==◌, codes}
 use Rattle.ld_trees.specs.Term.{Term, Star, Var, App, Lam, Pi}
-use Rattle.ld_terms.specs.Names.{IsTextName, level_name}
+use Rattle.ld_terms.specs.Names.{IsTextName, level_name, is_name_byte}
 use Rattle.term_syntax.specs.declared.surface.Label.{Label}
 use Rattle.term_syntax.specs.declared.surface.Label.TheVariants as label
 use Rattle.term_syntax.specs.declared.surface.Surface.{Surface}
 use Rattle.term_syntax.specs.declared.surface.Shape.TheVariants as shape
 use Rattle.term_syntax.specs.declared.kind.Kind.TheVariants as k
-use Rattle.term_syntax.specs.Lex.{Text, Lexeme, lexemes, is_tail}
-use Rattle.term_syntax.specs.Reading.{node}
+use Rattle.term_syntax.specs.Lex.{Text, Lexeme, lexemes}
 use Rattle.term_syntax.specs.Grammar as grammar
-use Rattle.term_syntax.specs.Grammar.{IsLabel, IsTerm, IsBinder, IsApp, IsAtoms, IsAtom, IsArguments, first}
+use Rattle.term_syntax.specs.Grammar.{IsLabel, IsTerm, IsBinder, IsApp, IsAtoms, IsAtom, IsArguments, first, node}
 use Rattle.term_syntax.specs.Printing.{Names, binder_text}
 use Rattle.term_syntax.specs.Scoping.{Arities, Bound, Scoped, ◌>>=◌, index_of, applied, below, scope}
 use Rattle.term_syntax.proofs.Sound.{product_from}
@@ -48,7 +47,7 @@ Spells n bytes (label.Plain a) = IsTextName a × (bytes ≡ a)
 Spells n bytes (label.Level m) = (m < n) × (bytes ≡ level_name m)
 
 plain_kind : (more : Text) → Ends more → name_kind (slice_index more 0) ≡ k.Name
-plain_kind more e = ap (λ b. cond b k.Call k.Name) (or_false (is_tail (slice_index more 0)) (slice_index more 0 == 40) e).1
+plain_kind more e = ap (λ b. cond b k.Call k.Name) (or_false (is_name_byte (slice_index more 0)) (slice_index more 0 == 40) e).1
 
 pub var_back : (g : Known) (d n i : ℕ) (bytes : Text) (bound : Bound) (x : Label) → n ≤ 10 ^ 9 → Spells n bytes x → index_of g.names x bound ≡ Some i → Back g (IsAtom d) bytes bound (Var i)
 var_back g d n i bytes bound (label.Plain a) h is found = record {

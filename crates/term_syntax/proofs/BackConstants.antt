@@ -8,9 +8,8 @@ use Rattle.ld_terms.specs.Views.{terms_onto}
 use Rattle.term_syntax.specs.declared.surface.Shape.TheVariants as shape
 use Rattle.term_syntax.specs.declared.kind.Kind.TheVariants as k
 use Rattle.term_syntax.specs.Lex.{Text, lexemes}
-use Rattle.term_syntax.specs.Reading.{node}
 use Rattle.term_syntax.specs.Grammar as grammar
-use Rattle.term_syntax.specs.Grammar.{IsTerm, IsAtom, IsArguments}
+use Rattle.term_syntax.specs.Grammar.{IsTerm, IsAtom, IsArguments, node}
 use Rattle.term_syntax.specs.Scoping.{Bound, Scoped, arguments, constant, below, scope}
 use Rattle.term_syntax.proofs.ScopeEquations.{scope_const}
 use Rattle.term_syntax.proofs.PrintedTokens.{tok, Ends, lex_blank, lex_open, lex_close, lex_comma}

@@ -1,5 +1,5 @@
 -- A level name is one token, and its number is read back.
-use Rattle.std.proofs.Common.{◌≡◌, ℕ, zero, suc, ◌+◌, ◌-◌, ◌*◌, ◌^◌, ◌<◌, ◌≤◌, min, Bool, true, false, cond, ◌||◌, eqb, eqb-true, inl, inr, ◌⊎◌, List, [], ◌∷◌, ◌++◌, length, take, drop, get_or, fold, refl, ap, ◌∙◌, arith, rules}
+use Rattle.std.proofs.Common.{◌≡◌, ℕ, zero, suc, ◌+◌, ◌-◌, ◌*◌, ◌^◌, ◌<◌, ◌≤◌, Bool, true, false, cond, ◌||◌, eqb, eqb-true, inl, inr, ◌⊎◌, List, [], ◌∷◌, ◌++◌, length, take, drop, get_or, fold, refl, ap, ◌∙◌, arith, rules}
 use Rattle.std.specs.Prelude.{decimal, nat_lt, map}
 use Rattle.std.specs.Fmt.{digits}
 use Rattle.std.specs.Int.{IsInRange}
@@ -10,8 +10,9 @@ use Rattle.std.proofs.lemmas.Fmt.{digits_decimal, digits_value-decimal, decimal-
 use Rattle.std.proofs.lemmas.Int.Digits.{first_digits_of}
 use Rattle.std.proofs.lemmas.Str.Parse.{IsNumeralModel, numerals_by_fold}
 use Rattle.term_syntax.specs.declared.kind.Kind.TheVariants as k
-use Rattle.term_syntax.specs.Lex.{Text, Cut, token, level, lexemes, is_digit}
-use Rattle.term_syntax.specs.Reading.{level_of}
+use Rattle.std.specs.Char.{is_ascii_digit}
+use Rattle.term_syntax.specs.Lex.{Text, Cut, token, level, lexemes}
+use Rattle.term_syntax.specs.Grammar.{level_of}
 use Rattle.term_syntax.proofs.LexLemmas.{lexemes_token}
 use Rattle.ld_terms.specs.Names.{level_name}
 use Rattle.term_syntax.proofs.PrintedTokens.{tok, Ends, no_digit}
@@ -31,14 +32,14 @@ read_on n (c ∷ cs) = read_on (10 * n + (c - 48)) cs
 own : IsNumeralModel AllDigits (read_on 0)
 own = numerals_by_fold _ (search rules) read_on (search rules)
 
-is_digit_in : (c : ℕ) → IsInRange 48 57 c → is_digit c ≡ true
+is_digit_in : (c : ℕ) → IsInRange 48 57 c → is_ascii_digit c ≡ true
 is_digit_in c h = grind (arith, nat_tests)
 
-pass_none : (more : Text) → Ends more → prefix_len is_digit more ≡ 0
+pass_none : (more : Text) → Ends more → prefix_len is_ascii_digit more ≡ 0
 pass_none [] e = refl
 pass_none (b ∷ more) e = rw (no_digit (b ∷ more) e) refl
 
-pass_all : (ds more : List ℕ) → AllDigits ds → Ends more → prefix_len is_digit (ds ++ more) ≡ length ds
+pass_all : (ds more : List ℕ) → AllDigits ds → Ends more → prefix_len is_ascii_digit (ds ++ more) ≡ length ds
 pass_all [] more h e = pass_none more e
 pass_all (c ∷ cs) more h e = rw (is_digit_in c h.0, pass_all cs more h.1 e) (omega arith)
 
@@ -51,20 +52,13 @@ level_by c len h short = elim (two (eqb c 48)) [
 level_at : (c : ℕ) (cs more : List ℕ) → AllDigits (c ∷ cs) → Ends more → length cs ≤ 8 → (c ≡ 48 → cs ≡ []) → level (37 ∷ c ∷ (cs ++ more)) ≡ (k.Level, suc (suc (length cs)))
 level_at c cs more h e short zero_alone = rw (pass_all (c ∷ cs) more h e) (level_by c (length cs) (λ z. ap length (zero_alone z)) short)
 
--- reading with a cap, where the number is below it
-capped : (ds : List ℕ) (n : ℕ) → fold (λ n b. min (10 * n + (b - 48)) (2 ^ 32 - 1)) (min n (2 ^ 32 - 1)) ds ≡ min (read_on n ds) (2 ^ 32 - 1)
-capped [] n = refl
-capped (c ∷ cs) n = (let e : min (10 * min n (2 ^ 32 - 1) + (c - 48)) (2 ^ 32 - 1) ≡ min (10 * n + (c - 48)) (2 ^ 32 - 1) = omega arith in rw e (capped cs (10 * n + (c - 48))))
+folded : (ds : List ℕ) (n : ℕ) → fold (λ n b. 10 * n + (b - 48)) n ds ≡ read_on n ds
+folded [] n = refl
+folded (c ∷ cs) n = folded cs (10 * n + (c - 48))
 
 pub level_of_name : (n : ℕ) → n < 2 ^ 32 → level_of (level_name n) ≡ n
 unfolding level_of
-level_of_name n h =
-    let e : min 0 (2 ^ 32 - 1) ≡ 0 = omega arith in
-    let read : read_on 0 (decimal n) ≡ n = digits_value-decimal own n (omega arith) in
-    let c = capped (decimal n) 0 in
-    let top : min n (2 ^ 32 - 1) ≡ n = omega arith in
-    (let start : fold (λ n b. min (10 * n + (b - 48)) (2 ^ 32 - 1)) 0 (decimal n) ≡ min (read_on 0 (decimal n)) (2 ^ 32 - 1) = rw e at c in start)
-    ∙ (ap (λ m. min m (2 ^ 32 - 1)) read ∙ top)
+level_of_name n h = folded (decimal n) 0 ∙ digits_value-decimal own n (omega arith)
 
 not_zero_first : (ds ls : List ℕ) → 0 < get_or ls 0 0 → ds ≡ map (λ d. 48 + d) ls → get_or ds 0 0 ≡ 48 → ⊥
 not_zero_first ds [] some e z = omega arith

@@ -9,7 +9,8 @@ use Rattle.term_syntax.specs.declared.kind.Kind.TheVariants as k
 use Rattle.term_syntax.specs.Lex.{Lexeme, Text}
 use Rattle.term_syntax.specs.Kinds.{is_kind}
 use Rattle.term_syntax.specs.Input.{Input, kind, kind_of, tail_of, next, place, place_of, spelling, spelling_of}
-use Rattle.term_syntax.specs.Reading.{Outcome, Parser, and_then, ◌>>=◌, pure, refuse, here, peek, sees, expect, eat, take_token, label_by, label_at, level_of, node, binder, parenthesized, abstraction, product, arguments_from}
+use Rattle.term_syntax.specs.Reading.{Outcome, Parser, and_then, ◌>>=◌, pure, refuse, here, peek, sees, expect, eat, take_token, label_by, label_at, binder, parenthesized, abstraction, product, arguments_from}
+use Rattle.term_syntax.specs.Grammar.{level_of, node}
 use Rattle.term_syntax.proofs.Progress.{chosen, ok_inj}
 use Rattle.term_syntax.proofs.Sound.{expect_took}
 use Rattle.term_syntax.proofs.Complete.{expect_runs}

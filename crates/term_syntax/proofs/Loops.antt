@@ -6,12 +6,13 @@ use Rattle.term_syntax.specs.declared.kind.Kind.{Kind}
 use Rattle.term_syntax.specs.declared.kind.Kind.TheVariants as k
 use Rattle.term_syntax.specs.Lex.{Lexeme}
 use Rattle.term_syntax.specs.Input.{Input, kind}
-use Rattle.term_syntax.specs.Reading.{Outcome, Parser, and_then, ◌>>=◌, ◌>>◌, pure, expect, eat, node, begins_atom, arguments, arguments_from, constant, atom_by, atom, atoms, atoms_from, applied, app, arrows}
+use Rattle.term_syntax.specs.Reading.{Outcome, Parser, and_then, ◌>>=◌, ◌>>◌, pure, expect, eat, begins_atom, arguments, arguments_from, constant, atom_by, atom, atoms, atoms_from, applied, app, arrows}
+use Rattle.term_syntax.specs.Grammar.{node}
 use Rattle.term_syntax.proofs.Progress.{left, Shorter, eat_no_longer, atom_shorter}
 use Rattle.term_syntax.proofs.Local.{Local, local_then, local_pure, local_refuse, local_here, local_by, local_take, local_expect, local_label, local_eat, local_peek, end_close, end_arrow, local_parenthesized, local_arguments_from}
 
 -- the same tokens are in front of the same rest
-cancel : (a b c : List Lexeme) → a ++ c ≡ b ++ c → a ≡ b
+pub cancel : (a b c : List Lexeme) → a ++ c ≡ b ++ c → a ≡ b
 cancel [] [] c e = refl
 cancel [] (y ∷ b) c e = absurd (omega (arith, ap (λ ls. length ls) e, length-append b c))
 cancel (x ∷ a) [] c e = absurd (omega (arith, ap (λ ls. length ls) e, length-append a c))

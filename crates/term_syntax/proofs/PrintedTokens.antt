@@ -4,7 +4,9 @@ use Rattle.std.specs.Prelude.{◌==◌}
 use Rattle.std.proofs.lemmas.Bool.{false≢true}
 use Rattle.term_syntax.specs.declared.kind.Kind.{Kind}
 use Rattle.term_syntax.specs.declared.kind.Kind.TheVariants as k
-use Rattle.term_syntax.specs.Lex.{Text, Lexeme, token, lexemes, is_letter, is_digit, is_tail}
+use Rattle.std.specs.Char.{is_ascii_alphanumeric, is_ascii_digit, is_ascii_uppercase, is_ascii_lowercase}
+use Rattle.ld_terms.specs.Names.{is_name_byte}
+use Rattle.term_syntax.specs.Lex.{Text, Lexeme, token, lexemes}
 use Rattle.term_syntax.proofs.LexLemmas.{lexemes_token, lexemes_blank}
 
 -- a token of this kind with this text
@@ -13,17 +15,21 @@ tok t at text = record { kind = t; at = at; text = text }
 
 -- The next byte, if there is one, neither goes on with a name nor makes it a constant's.
 abbrev pub Ends : Text → Type 0
-Ends more = (is_tail (slice_index more 0) || slice_index more 0 == 40) ≡ false
+Ends more = (is_name_byte (slice_index more 0) || slice_index more 0 == 40) ≡ false
 
 pub or_false : (a b : Bool) → (a || b) ≡ false → (a ≡ false) × (b ≡ false)
 or_false true b e = absurd (false≢true (sym e))
 or_false false b e = (refl, e)
 
-pub no_tail : (more : Text) → Ends more → is_tail (slice_index more 0) ≡ false
-no_tail more e = (or_false (is_tail (slice_index more 0)) (slice_index more 0 == 40) e).0
+pub no_tail : (more : Text) → Ends more → is_name_byte (slice_index more 0) ≡ false
+no_tail more e = (or_false (is_name_byte (slice_index more 0)) (slice_index more 0 == 40) e).0
 
-pub no_digit : (more : Text) → Ends more → is_digit (slice_index more 0) ≡ false
-no_digit more e = let b = slice_index more 0 in (or_false (is_letter b) (is_digit b) (or_false (is_letter b || is_digit b) (b == 95) (no_tail more e)).0).1
+pub no_digit : (more : Text) → Ends more → is_ascii_digit (slice_index more 0) ≡ false
+no_digit more e =
+    let b = slice_index more 0 in
+    let p = or_false (is_ascii_alphanumeric b) (b == 95) (no_tail more e) in
+    let q = or_false (is_ascii_digit b || is_ascii_uppercase b) (is_ascii_lowercase b) p.0 in
+    (or_false (is_ascii_digit b) (is_ascii_uppercase b) q.0).0
 
 pub lex_blank : (at : ℕ) (more : Text) → lexemes at (32 ∷ more) ≡ lexemes (at + 1) more
 lex_blank at more = lexemes_blank at 32 more refl

@@ -10,7 +10,8 @@ use Rattle.term_syntax.specs.declared.kind.Kind.TheVariants as k
 use Rattle.term_syntax.specs.Lex.{Lexeme}
 use Rattle.term_syntax.specs.Kinds.{is_kind}
 use Rattle.term_syntax.specs.Input.{Input, kind, kind_of, tail_of, next, place, spelling, begins_binder}
-use Rattle.term_syntax.specs.Reading.{Outcome, Parser, and_then, ◌>>=◌, pure, refuse, here, peek, node, sees, expect, eat, take_token, level_of, label_by, label_at, begins_atom, binder, arguments_from, arguments, constant, parenthesized, atom_by, atom, atoms_from, atoms, app, applied, abstraction, product, arrows, whole, term}
+use Rattle.term_syntax.specs.Reading.{Outcome, Parser, and_then, ◌>>=◌, pure, refuse, here, peek, sees, expect, eat, take_token, label_by, label_at, begins_atom, binder, arguments_from, arguments, constant, parenthesized, atom_by, atom, atoms_from, atoms, app, applied, abstraction, product, arrows, whole, term}
+use Rattle.term_syntax.specs.Grammar.{node, level_of}
 
 abbrev pub left : Input → ℕ
 left i = length i.ahead

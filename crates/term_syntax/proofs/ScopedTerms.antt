@@ -1,5 +1,5 @@
 -- What scoping gives: a term whose variables are bound or entries of the context, and whose constants are known.
-use Rattle.std.proofs.Common.{◌≡◌, ℕ, suc, ◌+◌, ◌-◌, ◌<◌, List, [], ◌∷◌, map, length, Option, Some, None, Result, Ok, Err, refl, ap, sym, ◌∙◌, arith, subst, Bool, true, false, cond, nat_lt, ◌==◌, nat_eq}
+use Rattle.std.proofs.Common.{◌≡◌, ℕ, suc, ◌+◌, ◌-◌, ◌<◌, List, [], ◌∷◌, map, length, Option, Some, None, Ok, Err, refl, ap, sym, ◌∙◌, arith, subst, Bool, true, false, cond, nat_lt, ◌==◌}
 use Rattle.std.proofs.lemmas.Bool.{eqb-true}
 use Rattle.std.proofs.lemmas.Bool.Decides.{nat_tests}
 use Rattle.std.specs.Str.{bytes_eq}
@@ -8,7 +8,7 @@ use Rattle.ld_terms.specs.Names.{IsTextName}
 use Rattle.term_syntax.specs.declared.scope_fault.ScopeFault.TheVariants.{WrongCount}
 use Rattle.term_syntax.specs.declared.surface.Label.{Label}
 use Rattle.term_syntax.specs.declared.surface.Label.TheVariants as label
-use Rattle.term_syntax.specs.declared.surface.Surface.{Surface, ind-Surface, fold-Surface, fold_out-Surface}
+use Rattle.term_syntax.specs.declared.surface.Surface.{Surface, ind-Surface, fold_out-Surface}
 use Rattle.term_syntax.specs.declared.surface.Shape.{Shape, fold-Shape, fold-roll-Shape, roll-Shape}
 use Rattle.term_syntax.specs.declared.surface.Shape.TheFolds.{map-Shape, map-Surface}
 use Rattle.term_syntax.specs.declared.surface.Shape.TheViews.{roll-Surface}
@@ -16,7 +16,7 @@ use Rattle.term_syntax.specs.declared.surface.Shape.TheOpen.{Shape-F, Surface-F}
 use Rattle.term_syntax.specs.Lex.{Text}
 use Rattle.term_syntax.specs.Printing.{Names}
 use Rattle.term_syntax.specs.ReadsBack.{Below, AllBelow, IsReadable, AreReadable}
-use Rattle.term_syntax.specs.Scoping.{Arities, Bound, Meaning, Scoped, ◌>>=◌, same_label, later, or_else, index_named, index_at, index_in_context, index_of, variable, applied, arguments, fitting, constant, below, node_meaning, scope}
+use Rattle.term_syntax.specs.Scoping.{Arities, Bound, Meaning, Scoped, ◌>>=◌, same_label, later, or_else, index_named, index_in_context, index_of, variable, applied, arguments, constant, below, node_meaning, scope}
 
 -- ---- indices
 

@@ -12,9 +12,9 @@ use Rattle.term_syntax.specs.declared.kind.Kind.TheVariants as k
 use Rattle.term_syntax.specs.Lex.{Lexeme, Text}
 use Rattle.term_syntax.specs.Kinds.{is_kind}
 use Rattle.term_syntax.specs.Input.{Input, kind, kind_of, tail_of, next, place, place_of, spelling, spelling_of, begins_binder}
-use Rattle.term_syntax.specs.Reading.{Parser, and_then, ◌>>=◌, pure, refuse, here, peek, node, sees, expect, eat, take_token, level_of, label_by, label_at, begins_atom, binder, arguments_from, arguments, constant, parenthesized, atom_by, atom, atoms_from, atoms, app, applied, abstraction, product, arrows, whole, term}
+use Rattle.term_syntax.specs.Reading.{Parser, and_then, ◌>>=◌, pure, refuse, here, peek, sees, expect, eat, take_token, label_by, label_at, begins_atom, binder, arguments_from, arguments, constant, parenthesized, atom_by, atom, atoms_from, atoms, app, applied, abstraction, product, arrows, whole, term}
 use Rattle.term_syntax.specs.Grammar as grammar
-use Rattle.term_syntax.specs.Grammar.{IsLabel, IsTerm, IsBinder, IsApp, IsAtoms, IsAtom, IsArguments, first}
+use Rattle.term_syntax.specs.Grammar.{IsLabel, IsTerm, IsBinder, IsApp, IsAtoms, IsAtom, IsArguments, first, node, level_of}
 use Rattle.term_syntax.proofs.Progress.{bind_ok, chosen, ok_inj}
 
 pub same_kind : (a b : Kind) → is_kind a b ≡ true → a ≡ b

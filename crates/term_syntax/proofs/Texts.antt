@@ -1,12 +1,12 @@
 -- Reading a whole text, against the grammar.
-use Rattle.std.proofs.Common.{◌≡◌, ℕ, min, length, Bool, true, false, if◌then◌else◌, List, [], ◌∷◌, Result, Ok, Err, refl, ap, sym, ◌∙◌, subst, IfOk}
+use Rattle.std.proofs.Common.{◌≡◌, Bool, true, false, if◌then◌else◌, List, [], ◌∷◌, Result, Ok, Err, refl, ap, sym, ◌∙◌, subst, IfOk}
 use Rattle.term_syntax.specs.declared.surface.Surface.{Surface}
 use Rattle.term_syntax.specs.declared.fault.ReadFault.{ReadFault}
 use Rattle.term_syntax.specs.declared.fault.ReadFault.TheVariants as fault
 use Rattle.term_syntax.specs.Lex.{Text, Lexeme, lexemes}
 use Rattle.term_syntax.specs.Input.{Input, input_at, is_nil}
-use Rattle.term_syntax.specs.Reading.{Outcome, and_then, at_end, pure, refuse, ◌>>=◌, term, finish, read, read_at, IsRead, Gives}
-use Rattle.term_syntax.specs.Grammar.{IsTerm, IsText, IsTermAt, IsRight}
+use Rattle.term_syntax.specs.Reading.{Outcome, and_then, at_end, pure, refuse, ◌>>=◌, term, finish, read, IsRead, Gives}
+use Rattle.term_syntax.specs.Grammar.{IsTerm, IsText, IsRight}
 use Rattle.term_syntax.specs.Laws.{shown, ReadingIsSound, ReadingIsComplete, TreesAreUnique}
 use Rattle.term_syntax.proofs.Progress.{bind_ok, ok_inj}
 use Rattle.term_syntax.proofs.Sound.{term_sound}
@@ -40,15 +40,6 @@ gives_ok (Err e) t h = absurd h
 pub found : (text : Text) (r : Result Surface ReadFault) → Gives (λ t _. t) (read text) r → IfOk r (λ t. IsText text t)
 found text (Ok t) h = let x = gives_ok (read text) t h in read_sound text t x.0 x.1
 found text (Err e) h = tt
-
-at_ok : (text : Text) (at : ℕ) (o : Outcome Surface) (p : Surface × ℕ) → o ≡ term 512 (input_at text (min at (length text))) → IsRead (λ t i. (t, i.at)) o p → IsTermAt text at p.0
-at_ok text at (Ok q) p is e = (q.1.ahead, subst (λ (p : Surface × ℕ). IsTerm 512 (input_at text (min at (length text))).ahead p.0 q.1.ahead) (sym e) ((term_sound 512).run (input_at text (min at (length text))) q.0 q.1 (sym is)))
-at_ok text at (Err e) p is h = absurd h
-
-pub found_at : (text : Text) (at : ℕ) (r : Result (Surface × ℕ) ReadFault) → Gives (λ t i. (t, i.at)) (read_at text at) r → IfOk r (λ p. IsTermAt text at p.0)
-unfolding read_at
-found_at text at (Ok p) h = at_ok text at (term 512 (input_at text (min at (length text)))) p refl h
-found_at text at (Err e) h = tt
 
 pub only : (text : Text) (r : Result Surface ReadFault) → Gives (λ t _. t) (read text) r → (t : Surface) → IsText text t → IsRight r (λ u. t ≡ u)
 only text (Ok u) h t is =

@@ -10,8 +10,8 @@ use Rattle.term_syntax.specs.Lex.{Lexeme}
 use Rattle.term_syntax.specs.Kinds.{is_kind}
 use Rattle.term_syntax.specs.Input.{Input, kind, kind_of, tail_of, place, begins_binder}
 use Rattle.term_syntax.specs.Grammar as grammar
-use Rattle.term_syntax.specs.Grammar.{IsLabel}
-use Rattle.term_syntax.specs.Reading.{Outcome, Parser, and_then, ◌>>=◌, ◌>>◌, pure, sees, expect, eat, label_at, node, binder, parenthesized, abstraction, product, atom_by, atom, atoms, applied, app, arrows, whole, term}
+use Rattle.term_syntax.specs.Grammar.{IsLabel, node}
+use Rattle.term_syntax.specs.Reading.{Outcome, Parser, and_then, ◌>>=◌, ◌>>◌, pure, sees, expect, eat, label_at, binder, parenthesized, abstraction, product, atom_by, atom, atoms, applied, app, arrows, whole, term}
 use Rattle.term_syntax.proofs.Progress.{left, Shorter, term_shorter}
 use Rattle.term_syntax.proofs.Sound.{same_kind}
 use Rattle.term_syntax.proofs.Complete.{expect_runs, label_runs}

@@ -13,17 +13,29 @@
 -- `d` bounds how many occurrences of `term` in the grammar stand inside one another, this one counted; the other relations are
 -- alike, and there `d` is the bound for the terms inside. So the inside of parentheses, each argument of a constant, the domain and
 -- the body of a binder and the right side of an arrow count one more, the left side of an arrow and the parts of an application none.
-use Rattle.std.specs.Prelude.{◌≡◌, ℕ, suc, min, length, false, List, [], ◌∷◌, Some, None, Result, Ok, Err}
+use Rattle.std.specs.Prelude.{◌≡◌, ℕ, suc, ◌+◌, ◌-◌, ◌*◌, drop, fold, false, List, [], ◌∷◌, Some, None, Result, Ok, Err}
 use Rattle.term_syntax.specs.declared.fault.ReadFault.{ReadFault}
 use Rattle.term_syntax.specs.declared.fault.ReadFault.TheVariants.{Syntax, Memory}
 use Rattle.term_syntax.specs.declared.surface.Label.{Label}
 use Rattle.term_syntax.specs.declared.surface.Label.TheVariants as label
 use Rattle.term_syntax.specs.declared.surface.Surface.{Surface}
+use Rattle.term_syntax.specs.declared.surface.Shape.{Shape}
 use Rattle.term_syntax.specs.declared.surface.Shape.TheVariants as shape
 use Rattle.term_syntax.specs.declared.kind.Kind.TheVariants as k
 use Rattle.term_syntax.specs.Lex.{Text, Lexeme, lexemes}
-use Rattle.term_syntax.specs.Input.{begins_binder, place_of, input_at}
-use Rattle.term_syntax.specs.Reading.{node, level_of, max_nesting}
+use Rattle.term_syntax.specs.Input.{begins_binder, place_of}
+
+-- how many terms may stand inside one another, the outermost counted
+abbrev pub max_nesting : ℕ
+max_nesting = 512
+
+-- a node of a tree, with its place
+abbrev pub node : ℕ → Shape → Surface
+node at s = record { at = at; shape = s }
+
+-- the number of a level name: what its decimal digits behind the `%` stand for
+unfoldable pub level_of : Text → ℕ
+level_of text = fold (λ n b. 10 * n + (b - 48)) 0 (drop 1 text)
 
 -- the place of the first token
 abbrev pub first : List Lexeme → ℕ
@@ -104,10 +116,6 @@ mutual
 -- All of the text is a term with this tree. No term stands inside 512 others.
 abbrev pub IsText : Text → Surface → Type 0
 IsText text t = IsTerm max_nesting (lexemes 0 text) t []
-
--- From the place `at` of the text on stands a term with this tree, whatever follows. A place behind the end counts as the end.
-abbrev pub IsTermAt : Text → ℕ → Surface → Type 0
-IsTermAt text at t = (rest : List Lexeme) × IsTerm max_nesting (input_at text (min at (length text))).ahead t rest
 
 -- an answer that is right, unless memory ran out
 abbrev pub IsRight : {B : Type 0} → Result B ReadFault → (B → Type 0) → Type 0

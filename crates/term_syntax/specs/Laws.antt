@@ -3,8 +3,8 @@ use Rattle.std.specs.Prelude.{◌≡◌, Result, Ok, Err, ℕ, List, [], ◌∷�
 use Rattle.term_syntax.specs.declared.surface.Surface.{Surface}
 use Rattle.term_syntax.specs.Lex.{Text, Lexeme, lexemes}
 use Rattle.term_syntax.specs.Input.{Input, place}
-use Rattle.term_syntax.specs.Reading.{Outcome, read, max_nesting}
-use Rattle.term_syntax.specs.Grammar.{IsTerm, IsText}
+use Rattle.term_syntax.specs.Reading.{Outcome, read}
+use Rattle.term_syntax.specs.Grammar.{IsTerm, IsText, max_nesting}
 
 -- the tree that was read, or the place of the refusal
 abbrev pub shown : Outcome Surface → Result Surface ℕ
@@ -23,8 +23,11 @@ ReadingIsComplete = (text : Text) (t : Surface) → IsText text t → shown (rea
 abbrev pub TreesAreUnique : Type 0
 TreesAreUnique = (text : Text) (t u : Surface) → IsText text t → IsText text u → t ≡ u
 
--- Where a text is refused at a token, no text of the grammar begins with the tokens before it and goes on with it, whatever stands
--- behind it.
+-- no text of the grammar begins with these tokens and goes on with the first one of those, whatever stands behind it
+abbrev pub NoneContinues : List Lexeme → List Lexeme → Type 0
+NoneContinues before rest = (l : Lexeme) (behind others : List Lexeme) → rest ≡ l ∷ behind → (t : Surface) → IsTerm max_nesting (before ++ l ∷ others) t [] → ⊥
+
+-- Where a text is refused at a token, no text of the grammar begins with the tokens before it and goes on with it.
 abbrev pub NothingContinues : Type 0
 NothingContinues = (text : Text) (i : Input) → read text ≡ Err i
-    → (before : List Lexeme) × (lexemes 0 text ≡ before ++ i.ahead) × ((l : Lexeme) (behind others : List Lexeme) → i.ahead ≡ l ∷ behind → (t : Surface) → IsTerm max_nesting (before ++ l ∷ others) t [] → ⊥)
+    → (before : List Lexeme) × (lexemes 0 text ≡ before ++ i.ahead) × NoneContinues before i.ahead

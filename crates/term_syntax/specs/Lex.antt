@@ -3,9 +3,11 @@
 -- They are `*`, `_`, `?`, `(`, `)`, `,`, `:`, `;`, `->`, `=>`, `:=`, names, level names and the reserved names `fun`, `def`, `prim`.
 -- Blanks separate them. The longest token wins. A byte that begins no token is a token of the kind Bad, and so is the first byte of
 -- a name or level name that is too long.
-use Rattle.std.specs.Prelude.{ℕ, zero, suc, ◌+◌, ◌-◌, Bool, ◌&&◌, ◌||◌, if◌then◌else◌, ◌==◌, nat_le, nat_lt, List, [], ◌∷◌, take, drop, slice_index, codes}
+use Rattle.std.specs.Prelude.{ℕ, zero, suc, ◌+◌, ◌-◌, Bool, ◌||◌, if◌then◌else◌, ◌==◌, nat_lt, List, [], ◌∷◌, take, drop, slice_index}
+use Rattle.std.specs.Char.{is_ascii_alphabetic, is_ascii_digit}
 use Rattle.std.specs.List.{prefix_len}
 use Rattle.std.specs.Str.{bytes_eq}
+use Rattle.ld_terms.specs.Names.{reserved_words, is_name_byte}
 use Rattle.term_syntax.specs.declared.kind.Kind.{Kind}
 use Rattle.term_syntax.specs.declared.kind.Kind.TheVariants.{Bad, Star, Wild, Asked, Open, Close, Comma, Colon, Semi, Arrow, FatArrow, Assign, Name, Call, Level, Fun, Def, Prim}
 
@@ -17,39 +19,29 @@ Text = List ℕ
 abbrev pub is_blank : ℕ → Bool
 is_blank b = b == 32 || b == 9 || b == 13 || b == 10
 
--- an ASCII letter
-abbrev pub is_letter : ℕ → Bool
-is_letter b = (nat_le 65 b && nat_le b 90) || (nat_le 97 b && nat_le b 122)
-
-abbrev pub is_digit : ℕ → Bool
-is_digit b = nat_le 48 b && nat_le b 57
-
--- a letter, a digit or `_`: what a name goes on with
-abbrev pub is_tail : ℕ → Bool
-is_tail b = is_letter b || is_digit b || b == 95
-
 -- a kind, and a length in bytes
 abbrev pub Cut : Type 0
 Cut = Kind × ℕ
 
+-- the kind that stands where the list of words has this one, else another
+abbrev pub kind_among : List Text → List Kind → Text → Kind → Kind
+kind_among (w ∷ ws) (k ∷ ks) word other = if bytes_eq word w then k else kind_among ws ks word other
+kind_among _ _ word other = other
+
 -- The kind of a name: it is reserved, or a constant's where `(` follows directly, or a plain one.
 abbrev pub word_kind : Text → ℕ → Kind
-word_kind word next =
-    if bytes_eq word (codes "fun") then Fun
-    else (if bytes_eq word (codes "def") then Def
-    else (if bytes_eq word (codes "prim") then Prim
-    else (if next == 40 then Call else Name)))
+word_kind word next = kind_among reserved_words (Fun ∷ Def ∷ Prim ∷ []) word (if next == 40 then Call else Name)
 
 -- a name of at most 64 bytes
 abbrev pub word : Text → Cut
 word z =
-    let end = prefix_len is_tail z in
+    let end = prefix_len is_name_byte z in
     if nat_lt 64 end then (Bad, 1) else (word_kind (take end z) (slice_index z end), end)
 
 -- a level name: `%0`, or `%` and one to nine digits of which the first is not 0
 abbrev pub level : Text → Cut
 level z =
-    let end = 1 + prefix_len is_digit (drop 1 z) in
+    let end = 1 + prefix_len is_ascii_digit (drop 1 z) in
     if slice_index z 1 == 48 then (Level, 2)
     else (if end == 1 || nat_lt 10 end then (Bad, 1) else (Level, end))
 
@@ -76,7 +68,7 @@ punctuation b next =
 unfoldable pub token : Text → Cut
 token z =
     let b = slice_index z 0 in
-    if is_letter b then word z else (if b == 37 then level z else punctuation b (slice_index z 1))
+    if is_ascii_alphabetic b then word z else (if b == 37 then level z else punctuation b (slice_index z 1))
 
 -- a token: its kind, its place and its text
 pub record Lexeme : Type 0 where

@@ -2,11 +2,10 @@
 --
 -- Each definition follows one line of the grammar in Grammar.antt and takes a token wherever one continues what was taken before, so
 -- that a refusal stands at the first token that doesn't. The laws in Laws.antt say that the trees are those of the grammar.
-use Rattle.std.specs.Prelude.{◌≡◌, ℕ, zero, suc, ◌+◌, ◌-◌, ◌*◌, ◌^◌, min, Bool, true, false, if◌then◌else◌, List, [], ◌∷◌, ◌++◌, length, drop, fold, Some, None, Result, Ok, Err}
+use Rattle.std.specs.Prelude.{◌≡◌, ℕ, zero, suc, min, Bool, true, false, if◌then◌else◌, List, [], ◌∷◌, ◌++◌, length, Some, None, Result, Ok, Err}
 use Rattle.term_syntax.specs.declared.surface.Label.{Label}
 use Rattle.term_syntax.specs.declared.surface.Label.TheVariants as label
 use Rattle.term_syntax.specs.declared.surface.Surface.{Surface}
-use Rattle.term_syntax.specs.declared.surface.Shape.{Shape}
 use Rattle.term_syntax.specs.declared.surface.Shape.TheVariants as shape
 use Rattle.term_syntax.specs.declared.kind.Kind.{Kind}
 use Rattle.term_syntax.specs.declared.kind.Kind.TheVariants.{Star, Wild, Asked, Open, Close, Comma, Colon, Arrow, FatArrow, Name, Call, Level, Fun}
@@ -15,6 +14,7 @@ use Rattle.term_syntax.specs.declared.fault.ReadFault.TheVariants.{Syntax, Memor
 use Rattle.term_syntax.specs.Kinds.{is_kind}
 use Rattle.term_syntax.specs.Lex.{Text}
 use Rattle.term_syntax.specs.Input.{Input, kind, spelling, place, next, is_nil, begins_binder, input_at}
+use Rattle.term_syntax.specs.Grammar.{node, level_of, max_nesting}
 
 -- what was read and what is left, or what is left where it is refused
 abbrev pub Outcome : Type 0 → Type 0
@@ -71,14 +71,6 @@ eat k = λ i. if sees k i then Ok (true, next i) else Ok (false, i)
 -- the bytes of the next token, which is taken
 abbrev pub take_token : Parser Text
 take_token = λ i. Ok (spelling i, next i)
-
--- a node of a tree, with its place
-abbrev pub node : ℕ → Shape → Surface
-node at s = record { at = at; shape = s }
-
--- The number of a level name. It has at most 9 digits, so the bound by 32 bits is never met.
-unfoldable pub level_of : Text → ℕ
-level_of text = fold (λ n b. min (10 * n + (b - 48)) (2 ^ 32 - 1)) 0 (drop 1 text)
 
 -- name | level, by the kind of the next token. Where `(` follows a name directly, the name is fine and the `(` isn't.
 abbrev pub label_by : Kind → Parser Label
@@ -216,10 +208,6 @@ module _ (inner : Parser Surface) where
 unfoldable pub term : ℕ → Parser Surface
 term zero = refuse
 term (suc depth) = whole (term depth)
-
--- how many terms may stand inside one another, the outermost counted
-abbrev pub max_nesting : ℕ
-max_nesting = 512
 
 -- a term, and then the end of the text
 unfoldable pub finish : Parser Surface

@@ -1,5 +1,5 @@
 -- What is printed is read again as the same term.
-use Rattle.std.specs.Prelude.{◌≡◌, ◌≤◌, ◌<◌, ◌+◌, ◌^◌, ℕ, [], ◌∷◌, length, Some, Ok}
+use Rattle.std.specs.Prelude.{◌≡◌, ◌≤◌, ◌<◌, ◌+◌, ℕ, [], ◌∷◌, length, Some, Ok}
 use Rattle.std.specs.Str.{IsAscii}
 use Rattle.ld_trees.specs.Term.{Term, Srt, star, square, Var, App, Lam, Pi, Con, Named, Numbered, Terms, none, ◌▹◌, count, depth}
 use Rattle.ld_terms.specs.Names.{IsTextName, IsEntryName}
@@ -62,6 +62,21 @@ abbrev pub ScopedIsReadable : Type 0
 ScopedIsReadable = (arity : Arities) (names : Names) → ((a : Text) (n : ℕ) → arity a ≡ Some n → IsTextName a)
     → (s : Surface) (t : Term) → scope arity names s [] ≡ Ok t → Below (length names) t × IsReadable arity t
 
--- a printed text is ASCII
+-- each constant has a name of the texts
+abbrev mutual
+  pub HasTextNames : Term → Type 0
+  HasTextNames (Srt s) = Unit {0}
+  HasTextNames (Var i) = Unit {0}
+  HasTextNames (App f a) = HasTextNames f × HasTextNames a
+  HasTextNames (Lam A M) = HasTextNames A × HasTextNames M
+  HasTextNames (Pi A B) = HasTextNames A × HasTextNames B
+  HasTextNames (Con (Named a) us) = IsTextName a × HaveTextNames us
+  HasTextNames (Con (Numbered m) us) = HaveTextNames us
+
+  pub HaveTextNames : Terms → Type 0
+  HaveTextNames none = Unit {0}
+  HaveTextNames (us ▹ u) = HaveTextNames us × HasTextNames u
+
+-- A printed text is ASCII, whatever the entries of the context are called, and also where `□` and metavariables stand in the term.
 abbrev pub PrintedIsAscii : Type 0
-PrintedIsAscii = (arity : Arities) (names : Names) (k : ℕ) (t : Term) → k + depth t < 2 ^ 64 → IsReadable arity t → IsAscii (text names k t)
+PrintedIsAscii = (names : Names) (k : ℕ) (t : Term) → HasTextNames t → IsAscii (text names k t)

@@ -1,7 +1,8 @@
 //! The laws of the grammar and of its reading. Each function is a law, stated by its contract; none is called at run time.
 
 ghost use Rattle.term_syntax.specs.Laws.{ReadingIsSound, ReadingIsComplete, TreesAreUnique, NothingContinues, shown};
-ghost use Rattle.term_syntax.specs.Reading.{read, node};
+ghost use Rattle.term_syntax.specs.Reading.{read};
+ghost use Rattle.term_syntax.specs.Grammar.{node};
 ghost use Rattle.term_syntax.specs.declared.surface.Label.TheVariants as label;
 ghost use Rattle.term_syntax.specs.declared.surface.Shape.TheVariants as shape;
 ghost use Rattle.std.specs.Prelude.{◌≡◌, Ok, Err, [], ◌∷◌, codes};

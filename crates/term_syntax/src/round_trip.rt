@@ -7,7 +7,7 @@ ghost use Rattle.ld_trees.specs.Term.{Star, Square, Var, App, Lam, Pi, Const, Me
 ghost use Rattle.term_syntax.specs.declared.scope_fault.ScopeFault.TheVariants.{UnknownName, WrongCount, Unsolved};
 ghost use Rattle.term_syntax.specs.declared.surface.Label.TheVariants as label;
 ghost use Rattle.term_syntax.specs.declared.surface.Shape.TheVariants as shape;
-ghost use Rattle.term_syntax.specs.Reading.{node};
+ghost use Rattle.term_syntax.specs.Grammar.{node};
 ghost use Rattle.term_syntax.specs.Scoping.{scope};
 ghost use Rattle.term_syntax.specs.Printing.{text};
 ghost use Rattle.term_syntax.specs.ReadsBack.{PrintedIsRead, ScopedIsReadable, PrintedIsAscii};
@@ -26,7 +26,6 @@ pub fn scoped_is_readable()
 {}
 
 /// A printed text is ASCII.
-#[tactic(auto, using(crate::proofs::PrintedAscii::printed_is_ascii))]
 pub fn printed_is_ascii()
     ensures { PrintedIsAscii }
 {}
@@ -44,6 +43,9 @@ pub fn printed_examples_compute()
     ensures application { text (codes "F" ∷ codes "x" ∷ []) 2 (App (Var 1) (Var 0)) ≡ codes "F x" }
     ensures to_the_left { text (codes "A" ∷ []) 1 (Pi (Pi (Var 0) (Const (codes "falsum") none)) (Const (codes "falsum") none)) ≡ codes "(A -> falsum()) -> falsum()" }
     ensures sort_of_kinds { text [] 0 Square ≡ codes "#" }
+    // An abstraction stands in parentheses as the head of an application, and an application as an argument.
+    ensures redex { text (codes "%0" ∷ codes "%1" ∷ []) 2 (App (App (Lam Star (Lam (Var 0) (Var 0))) (Var 1)) (Var 0)) ≡ codes "(fun (%2 : *) => fun (%3 : %2) => %3) %0 %1" }
+    ensures argument { text (codes "f" ∷ codes "g" ∷ codes "x" ∷ []) 3 (App (Var 2) (App (Var 1) (Var 0))) ≡ codes "f (g x)" }
 {}
 
 /// Worked examples of resolved names, which the checker computes.
@@ -51,5 +53,17 @@ pub fn scoped_examples_compute()
     ensures unknown { scope (λ _. None) [] (node 0 (shape.Named (label.Plain (codes "y")))) [] ≡ Err (UnknownName 0 (codes "y")) }
     ensures wrong_count { scope (λ a. if bytes_eq a (codes "le") then Some 2 else Some 0) [] (node 0 (shape.Const (codes "le") (node 3 (shape.Const (codes "a") []) ∷ []))) [] ≡ Err (WrongCount 0 (codes "le") 1 2) }
     ensures innermost { scope (λ _. None) (codes "x" ∷ []) (node 0 (shape.Lam (label.Plain (codes "x")) (node 9 (shape.Named (label.Plain (codes "x")))) (node 15 (shape.Named (label.Plain (codes "x")))))) [] ≡ Ok (Lam (Var 0) (Var 0)) }
+    // `%1` is the entry of level 1, also below a binder of another name.
+    ensures level { scope (λ _. None) (codes "A" ∷ codes "B" ∷ codes "C" ∷ []) (node 0 (shape.Named (label.Level 1))) (Some (label.Plain (codes "x")) ∷ []) ≡ Ok (Var 2) }
+    ensures no_such_level { scope (λ _. None) (codes "A" ∷ []) (node 0 (shape.Named (label.Level 1))) [] ≡ Err (UnknownName 0 (codes "%1")) }
+    // `(%5 : A) -> %5`: the label is bound in the text, whatever its level is.
+    ensures label_bound { scope (λ _. None) (codes "A" ∷ []) (node 0 (shape.Pi (Some (label.Level 5)) (node 6 (shape.Named (label.Plain (codes "A")))) (node 12 (shape.Named (label.Level 5))))) [] ≡ Ok (Pi (Var 0) (Var 0)) }
+    ensures last_of_equals { scope (λ _. None) (codes "x" ∷ codes "y" ∷ codes "x" ∷ codes "z" ∷ []) (node 0 (shape.Named (label.Plain (codes "x")))) [] ≡ Ok (Var 1) }
+    // The name stands below the arrow, which is a binder without a name.
+    ensures below_an_arrow { scope (λ _. None) (codes "A" ∷ []) (node 0 (shape.Pi None (node 0 (shape.Named (label.Plain (codes "A")))) (node 5 (shape.Named (label.Plain (codes "A")))))) [] ≡ Ok (Pi (Var 0) (Var 1)) }
+    // An unknown constant comes before a wrong count, and that before the faults of its arguments.
+    ensures unknown_constant { scope (λ _. None) [] (node 0 (shape.Const (codes "a") (node 2 (shape.Named (label.Plain (codes "y"))) ∷ []))) [] ≡ Err (UnknownName 0 (codes "a")) }
+    ensures count_first { scope (λ _. Some 0) [] (node 0 (shape.Const (codes "a") (node 2 (shape.Named (label.Plain (codes "y"))) ∷ []))) [] ≡ Err (WrongCount 0 (codes "a") 1 0) }
+    ensures argument_last { scope (λ _. Some 1) [] (node 0 (shape.Const (codes "a") (node 2 (shape.Named (label.Plain (codes "y"))) ∷ []))) [] ≡ Err (UnknownName 2 (codes "y")) }
     ensures hole { scope (λ _. None) [] (node 0 (shape.App (node 0 shape.Star) (node 2 shape.Wild ∷ []))) [] ≡ Err (Unsolved 2) }
 {}

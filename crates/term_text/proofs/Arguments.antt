@@ -1,18 +1,11 @@
 -- Arguments of a node, one by one.
 use Rattle.std.proofs.Common.{◌≡◌, ℕ, zero, suc, ◌+◌, ◌<◌, ◌≤◌, Bool, true, false, ◌||◌, List, [], ◌∷◌, ◌++◌, length, get_or, take, map, refl, ap, sym, ◌∙◌, arith, append_assoc}
 use Rattle.std.proofs.lemmas.Bool.{false≢true}
-use Rattle.std.proofs.lemmas.List.{map_more, append-nil}
+use Rattle.std.proofs.lemmas.List.{append-nil}
 use Rattle.ld_trees.specs.Term.{Term, Terms, none, ◌▹◌, depth, depth_all}
 use Rattle.ld_terms.specs.Views.{terms_onto, terms_of}
+use Rattle.ld_terms.proofs.Arguments.{terms_of_more}
 use Rattle.term_syntax.specs.Printing.{Names, occurs, occurs_in, joined, text, texts}
-
-terms_more : (us : Terms) (xs : List Term) (x : Term) → terms_onto us (xs ++ x ∷ []) ≡ terms_onto us xs ▹ x
-terms_more us [] x = refl
-terms_more us (y ∷ xs) x = terms_more (us ▹ y) xs x
-
--- one more handle is one more argument
-pub one_more : {H : Type 0} (means : H → Term) (us : List H) (i : ℕ) (d : H) → i < length us → terms_of (map means (take (i + 1) us)) ≡ terms_of (map means (take i us)) ▹ means (get_or us i d)
-one_more means us i d h = ap terms_of (map_more means us i d h) ∙ terms_more none (map means (take i us)) (means (get_or us i d))
 
 depth_onto : (us : Terms) (xs : List Term) → depth_all us ≤ depth_all (terms_onto us xs)
 depth_onto us [] = omega arith
@@ -53,7 +46,7 @@ or_none true b e f = absurd (false≢true (sym e))
 or_none false b e f = f
 
 pub occurs_no_more : {H : Type 0} (means : H → Term) (i : ℕ) (us : List H) (j : ℕ) (d : H) → j < length us → occurs_in i (terms_of (map means (take j us))) ≡ false → occurs i (means (get_or us j d)) ≡ false → occurs_in i (terms_of (map means (take (j + 1) us))) ≡ false
-occurs_no_more means i us j d h e f = ap (occurs_in i) (one_more means us j d h) ∙ or_none _ _ e f
+occurs_no_more means i us j d h e f = ap (occurs_in i) (terms_of_more means us j d h) ∙ or_none _ _ e f
 
 -- ---- the text of one more argument
 
@@ -76,7 +69,7 @@ none_taken means (u ∷ us) zero e = refl
 none_taken means (u ∷ us) (suc i) e = absurd (omega (arith, e))
 
 text_of_first : {H : Type 0} (means : H → Term) (names : Names) (k : ℕ) (us : List H) (i : ℕ) (d : H) → i ≡ 0 → i < length us → texts names k (terms_of (map means (take (i + 1) us))) ≡ text names k (means (get_or us i d))
-text_of_first means names k us i d z h = ap (texts names k) (one_more means us i d h) ∙ first_joined (map means (take i us)) _ _ (ap (λ (xs : List Term). length xs) (none_taken means us i z))
+text_of_first means names k us i d z h = ap (texts names k) (terms_of_more means us i d h) ∙ first_joined (map means (take i us)) _ _ (ap (λ (xs : List Term). length xs) (none_taken means us i z))
 
 some_taken : {H : Type 0} (means : H → Term) (us : List H) (i : ℕ) → 0 < i → i < length us → 0 < length (map means (take i us))
 some_taken means [] i p h = absurd (omega arith)
@@ -85,7 +78,7 @@ some_taken means (u ∷ us) (suc i) p h = omega arith
 
 text_of_next : {H : Type 0} (means : H → Term) (names : Names) (k : ℕ) (us : List H) (i : ℕ) (d : H) → 0 < i → i < length us
     → texts names k (terms_of (map means (take (i + 1) us))) ≡ texts names k (terms_of (map means (take i us))) ++ (44 ∷ 32 ∷ text names k (means (get_or us i d)))
-text_of_next means names k us i d p h = ap (texts names k) (one_more means us i d h) ∙ next_joined (map means (take i us)) _ _ (some_taken means us i p h)
+text_of_next means names k us i d p h = ap (texts names k) (terms_of_more means us i d h) ∙ next_joined (map means (take i us)) _ _ (some_taken means us i p h)
 
 -- bytes put behind the arguments so far: the first one, or a comma and a further one
 pub put_first : {H : Type 0} (means : H → Term) (names : Names) (k : ℕ) (us : List H) (i : ℕ) (d : H) (start so_far out : List ℕ) → i ≡ 0 → i < length us

@@ -1,6 +1,6 @@
 -- The text of an entry of a context, found at its place in the list of names.
 use Rattle.std.proofs.Common.{◌≡◌, ℕ, zero, suc, ◌+◌, ◌<◌, ◌≤◌, Bool, true, false, cond, eqb, ◌&&◌, inl, inr, ◌⊎◌, List, [], ◌∷◌, length, get_or, drop, refl, ap, sym, ◌∙◌, arith, subst}
-use Rattle.std.specs.Prelude.{not}
+use Rattle.std.specs.Prelude.{not, slice_index_or}
 use Rattle.std.specs.List.{list_any}
 use Rattle.std.specs.Str.{bytes_eq}
 use Rattle.std.proofs.lemmas.Bool.Decides.{nat_tests}
@@ -9,7 +9,10 @@ use Rattle.term_syntax.specs.Lex.{Text}
 use Rattle.term_syntax.specs.Printing.{Names, entry_text, level_text}
 use Rattle.term_syntax.specs.ReadsBack.{NamedFrom}
 use Rattle.term_syntax.proofs.Entries.{beyond}
-use Rattle.term_text.specs.Printed.{hidden}
+
+-- whether a later entry has the name of the entry at a place
+abbrev pub hidden : Names → ℕ → Bool
+hidden names j = list_any (bytes_eq (slice_index_or names j [])) (drop (j + 1) names)
 
 by_name : (level : ℕ) (name : Text) (b : Bool) → IsEntryName level name → cond (is_text_name name && not b) name (level_name level) ≡ cond b (level_name level) name
 by_name level name true (inl h) = rw h refl

@@ -1,13 +1,13 @@
 -- The index of a name, counted from the innermost binder or the last entry.
 use denote.Bor.{Bor}
-use Rattle.std.proofs.Common.{◌≡◌, ℕ, zero, suc, ◌+◌, ◌-◌, ◌<◌, ◌≤◌, Bool, true, false, cond, List, [], ◌∷◌, ◌++◌, length, get_or, take, drop, Option, Some, None, refl, ap, sym, ◌∙◌, arith, add-one, drop-cons}
+use Rattle.std.proofs.Common.{◌≡◌, ℕ, zero, suc, ◌+◌, ◌-◌, ◌<◌, ◌≤◌, Bool, true, false, cond, List, [], ◌∷◌, length, get_or, take, drop, Option, Some, None, refl, ap, sym, ◌∙◌, arith, drop-cons}
 use Rattle.std.specs.Option.{option_copied}
 use Rattle.std.specs.Str.{bytes_eq}
 use Rattle.std.proofs.lemmas.List.{length-drop, take_more}
 use Rattle.term_syntax.specs.declared.surface.Label.{Label}
 use Rattle.term_syntax.specs.Lex.{Text}
 use Rattle.term_syntax.specs.Printing.{Names}
-use Rattle.term_syntax.specs.Scoping.{Bound, same_label, later, or_else, index_named, index_of}
+use Rattle.term_syntax.specs.Scoping.{Bound, later, or_else, index_named, index_of}
 use Rattle.term_text.specs.Scoped.{bound_of, is_bound_by}
 use Rattle.term_text.proofs.ScopeLaws.{pushed}
 

@@ -1,17 +1,18 @@
 -- How the outcome of scoping a node follows from its parts, over a store that grows.
-use Rattle.std.proofs.Common.{◌≡◌, ℕ, zero, suc, ◌+◌, ◌-◌, ◌<◌, ◌≤◌, Bool, true, false, List, [], ◌∷◌, ◌++◌, length, get_or, take, drop, map, Option, Some, None, Result, Ok, Err, All, refl, ap, sym, ◌∙◌, arith, subst, add-one, drop-cons, rules}
+use Rattle.std.proofs.Common.{◌≡◌, ℕ, zero, suc, ◌+◌, ◌<◌, ◌≤◌, List, [], ◌∷◌, ◌++◌, length, get_or, drop, map, Option, Ok, All, refl, ap, sym, ◌∙◌, arith, subst, drop-cons}
 use denote.Bor.{Bor}
 use Rattle.std.specs.Option.{option_copied}
-use Rattle.std.proofs.lemmas.List.{map-append, length-map}
-use Rattle.ld_trees.specs.Term.{Term, Terms, none, ◌▹◌, Const, App}
-use Rattle.ld_terms.specs.Views.{Keeps, terms_onto, terms_of}
+use Rattle.ld_trees.specs.Term.{Term, Terms, none, ◌▹◌, App}
+use Rattle.ld_terms.specs.Views.{Keeps, terms_of}
+use Rattle.ld_terms.proofs.Arguments.{terms_of_end}
+use Rattle.ld_terms.proofs.Turns.{keeps_both, keeps_all, keeps_map}
 use Rattle.term_syntax.specs.declared.surface.Label.{Label}
 use Rattle.term_syntax.specs.declared.surface.Surface.{Surface}
 use Rattle.term_syntax.specs.declared.scope_fault.ScopeFault.{ScopeFault}
 use Rattle.term_syntax.specs.declared.scope_fault.ScopeFault.TheVariants.{UnknownName, WrongCount, Unsolved, Memory}
 use Rattle.term_syntax.specs.Scoping.{Bound, Scoped, ◌>>=◌, applied, arguments, below, scope, Arities}
 use Rattle.term_syntax.specs.Printing.{Names}
-use Rattle.term_text.specs.Scoped.{bound_onto, bound_of, Refuses, IsScoped, AreScoped}
+use Rattle.term_text.specs.Scoped.{bound_onto, bound_of, Refuses}
 
 -- a refusal of the first step is the whole's
 pub refused : {A B : Type 0} (o : Scoped A) (f : A → Scoped B) (e : ScopeFault) → Refuses o e → Refuses (o >>= f) e
@@ -20,19 +21,7 @@ refused o f (UnknownName at a) h = ap (λ o. o >>= f) h
 refused o f (WrongCount at a given wanted) h = ap (λ o. o >>= f) h
 refused o f (Unsolved at) h = ap (λ o. o >>= f) h
 
--- ---- what a store keeps
-
-pub keeps_after : {H : Type 0} {p q r : H → Type 0} {m n o : H → Term} → Keeps p m q n → Keeps q n r o → Keeps p m r o
-keeps_after a b = λ h is. let x = a h is in let y = b h x.0 in (y.0, y.1 ∙ x.1)
-
-pub keeps_all : {H : Type 0} {p q : H → Type 0} {m n : H → Term} → Keeps p m q n → (xs : List H) → All p xs → All q xs
-keeps_all a xs h = λ k d lt. (a (get_or xs k d) (h k d lt)).0
-
-pub keeps_map : {H : Type 0} {p q : H → Type 0} {m n : H → Term} → Keeps p m q n → (xs : List H) → All p xs → map n xs ≡ map m xs
-keeps_map a [] h = refl
-keeps_map {m = m} {n = n} a (x ∷ xs) h =
-    let here : n x ≡ m x = (a x (h 0 x (omega arith))).1 in
-    ap (λ y. y ∷ map n xs) here ∙ ap (λ ys. m x ∷ ys) (keeps_map a xs (λ k d lt. h (suc k) d (omega arith)))
+-- ---- one more handle
 
 all_push : {H : Type 0} (p : H → Type 0) (xs : List H) (x : H) → All p xs → p x → All p (xs ++ x ∷ [])
 all_push p [] x a h zero d lt = h
@@ -73,8 +62,8 @@ pub record Spine {H : Type 0} (p : H → Type 0) (m : H → Term) (q : H → Typ
 pub spine_turn : {H : Type 0} {p q q' q'' : H → Type 0} {m n n' n'' : H → Term} {outcome : Scoped Term} {h : H}
     (r : Surface → Scoped Term) (us : List Surface) (i : ℕ) (u : Surface) (a h' : H) → Spine p m q n outcome (map r (drop i us)) h → i < length us → u ≡ get_or us i u
     → Keeps q n q' n' → r u ≡ Ok (n' a) → Keeps q' n' q'' n'' → q'' h' → n'' h' ≡ App (n' h) (n' a) → Spine p m q'' n'' outcome (map r (drop (i + 1) us)) h'
-spine_turn {n = n} {n' = n'} {n'' = n''} {h = h} r us i u a h' s lt is k scoped k' held made = record {
-  kept = keeps_after s.kept (keeps_after k k');
+spine_turn {p = p} {q = q} {q' = q'} {q'' = q''} {m = m} {n = n} {n' = n'} {n'' = n''} {h = h} r us i u a h' s lt is k scoped k' held made = record {
+  kept = keeps_both p m q n q'' n'' s.kept (keeps_both q n q' n' q'' n'' k k');
   held = held;
   is =
       s.is
@@ -101,22 +90,18 @@ pub record Each {H : Type 0} (p : H → Type 0) (m : H → Term) (q : H → Type
   pub held : All q out
   pub is : outcome ≡ arguments (terms_of (map n out)) rest
 
-terms_more : (us : Terms) (xs : List Term) (x : Term) → terms_onto us (xs ++ x ∷ []) ≡ terms_onto us xs ▹ x
-terms_more us [] x = refl
-terms_more us (y ∷ xs) x = terms_more (us ▹ y) xs x
-
 pub each_turn : {H : Type 0} {p q q' : H → Type 0} {m n n' : H → Term} {outcome : Scoped Terms} {out : List H}
     (r : Surface → Scoped Term) (us : List Surface) (i : ℕ) (u : Surface) (a : H) → Each p m q n outcome (map r (drop i us)) out → i < length us → u ≡ get_or us i u
     → Keeps q n q' n' → q' a → r u ≡ Ok (n' a) → Each p m q' n' outcome (map r (drop (i + 1) us)) (out ++ a ∷ [])
-each_turn {q' = q'} {n = n} {n' = n'} {out = out} r us i u a s lt is k held scoped = record {
-  kept = keeps_after s.kept k;
-  held = all_push q' out a (keeps_all k out s.held) held;
+each_turn {p = p} {q = q} {q' = q'} {m = m} {n = n} {n' = n'} {out = out} r us i u a s lt is k held scoped = record {
+  kept = keeps_both p m q n q' n' s.kept k;
+  held = all_push q' out a (keeps_all q n q' n' out k s.held) held;
   is =
       s.is
       ∙ ap (arguments (terms_of (map n out))) (left r us i u lt is)
       ∙ ap (λ o. o >>= (λ v. arguments (terms_of (map n out) ▹ v) (map r (drop (i + 1) us)))) scoped
-      ∙ ap (λ ts. arguments (terms_of ts ▹ n' a) (map r (drop (i + 1) us))) (sym (keeps_map k out s.held))
-      ∙ ap (λ us'. arguments us' (map r (drop (i + 1) us))) (sym (ap terms_of (map-append n' out (a ∷ [])) ∙ terms_more none (map n' out) (n' a)));
+      ∙ ap (λ ts. arguments (terms_of ts ▹ n' a) (map r (drop (i + 1) us))) (sym (keeps_map q n q' n' out k s.held))
+      ∙ ap (λ us'. arguments us' (map r (drop (i + 1) us))) (sym (terms_of_end n' out a));
 }
 
 pub each_refused : {H : Type 0} {p q : H → Type 0} {m n : H → Term} {outcome : Scoped Terms} {out : List H}

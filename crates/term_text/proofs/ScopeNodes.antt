@@ -1,6 +1,6 @@
 -- The outcome of scoping a node, from the outcomes of its parts.
 use denote.Bor.{Bor}
-use Rattle.std.proofs.Common.{◌≡◌, ℕ, List, [], ◌∷◌, length, map, Option, Some, None, Ok, refl, ap, sym, ◌∙◌, subst}
+use Rattle.std.proofs.Common.{◌≡◌, ℕ, List, ◌∷◌, length, map, Option, Some, Ok, ap, sym, ◌∙◌, subst}
 use Rattle.std.proofs.lemmas.List.{length-map}
 use Rattle.ld_trees.specs.Term.{Term, Lam, Pi, Const, Terms, none}
 use Rattle.term_syntax.specs.declared.surface.Label.{Label}
@@ -9,7 +9,7 @@ use Rattle.term_syntax.specs.declared.surface.Shape.TheVariants as shape
 use Rattle.term_syntax.specs.declared.scope_fault.ScopeFault.{ScopeFault}
 use Rattle.term_syntax.specs.Lex.{Text}
 use Rattle.term_syntax.specs.Printing.{Names}
-use Rattle.term_syntax.specs.Scoping.{Arities, Bound, Meaning, Scoped, ◌>>=◌, applied, arguments, fitting, constant, below, scope}
+use Rattle.term_syntax.specs.Scoping.{Arities, Bound, Scoped, ◌>>=◌, applied, arguments, fitting, below, scope}
 use Rattle.term_syntax.proofs.ScopeEquations.{scope_const, scope_app, scope_lam, scope_pi}
 use Rattle.term_text.specs.Scoped.{Refuses, bound_of}
 use Rattle.term_text.proofs.ScopeLaws.{refused}

@@ -1,7 +1,6 @@
 -- What printing a term answers: its text, or its size where it is too large to print.
-use Rattle.std.specs.List.{list_any}
-use Rattle.std.specs.Str.{bytes_eq}
-use Rattle.std.specs.Prelude.{◌≡◌, ◌+◌, drop, slice_index_or, ℕ, ◌-◌, ◌^◌, min, nat_lt, Bool, ◌||◌, if◌then◌else◌, length, [], Ok}
+use Rattle.std.specs.Str.{IsAscii}
+use Rattle.std.specs.Prelude.{◌≡◌, ℕ, ◌-◌, ◌^◌, min, nat_lt, Bool, ◌||◌, if◌then◌else◌, length, [], Ok}
 use Rattle.ld_trees.specs.Term.{Term, nodes, depth}
 use Rattle.term_syntax.specs.declared.surface.Surface.{Surface}
 use Rattle.term_syntax.specs.Grammar.{IsText}
@@ -10,10 +9,6 @@ use Rattle.term_syntax.specs.Scoping.{Arities, scope}
 use Rattle.term_syntax.specs.ReadsBack.{IsReadable}
 use Rattle.term_text.specs.declared.print.Printed.{Printed}
 use Rattle.term_text.specs.declared.print.Printed.TheVariants as printed
-
--- whether a later entry has the name of the entry at a place
-abbrev pub hidden : Names → ℕ → Bool
-hidden names j = list_any (bytes_eq (slice_index_or names j [])) (drop (j + 1) names)
 
 -- more than 65,536 nodes, or a depth above 512
 abbrev pub is_large : Term → Bool
@@ -30,3 +25,8 @@ printed_as names t = if is_large t then printed.Large (shown (depth t)) (shown (
 abbrev pub PrintedReadsBack : Names → Term → Printed → Type 0
 PrintedReadsBack names t (printed.Text bytes) = (arity : Arities) → IsReadable arity t → (s : Surface) × IsText bytes s × (scope arity names s [] ≡ Ok t)
 PrintedReadsBack names t (printed.Large depth nodes) = Unit {0}
+
+-- a printed text is ASCII
+abbrev pub PrintedIsAscii : Printed → Type 0
+PrintedIsAscii (printed.Text bytes) = IsAscii bytes
+PrintedIsAscii (printed.Large depth nodes) = Unit {0}

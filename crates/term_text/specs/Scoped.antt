@@ -1,6 +1,6 @@
 -- What scoping answers, over a store of terms.
 use denote.Bor.{Bor}
-use Rattle.std.specs.Prelude.{◌≡◌, ℕ, Bool, false, List, [], ◌∷◌, length, Option, Some, None, Result, Ok, Err, All, map}
+use Rattle.std.specs.Prelude.{◌≡◌, Bool, false, List, [], ◌∷◌, length, Option, Some, None, Result, Ok, Err, All, map}
 use Rattle.std.specs.Option.{option_map, option_copied}
 use Rattle.ld_trees.specs.Term.{Term, Terms}
 use Rattle.ld_terms.specs.declared.globals.Item.{Item}

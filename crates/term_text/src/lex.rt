@@ -1,8 +1,10 @@
 //! Cuts the token at the front of a text. The longest token wins.
 
 ghost use Rattle.std.specs.Prelude.{◌≡◌, ◌≢◌, ◌<◌, ◌≤◌, ◌+◌, ◌-◌, ◌^◌, length, slice_index, true, false, drop, take};
+ghost use Rattle.std.specs.Char.{is_ascii_alphabetic, is_ascii_digit};
 ghost use Rattle.std.specs.List.{prefix_len};
 ghost use Rattle.std.specs.Str.{bytes_eq};
+ghost use Rattle.ld_terms.specs.Names.{is_name_byte};
 ghost use Rattle.term_syntax.specs.Lex as spec;
 
 use term_syntax::Kind;
@@ -17,22 +19,11 @@ pub fn is_blank(b: u8) -> bool
     b == b' ' || b == b'\t' || b == b'\r' || b == b'\n'
 }
 
-fn is_letter(b: u8) -> bool
-    ensures { result ≡ spec.is_letter b }
+/// A letter, a digit or `_`: what a name goes on with.
+fn is_name_byte(b: u8) -> bool
+    ensures { result ≡ is_name_byte b }
 {
-    (b'A' <= b && b <= b'Z') || (b'a' <= b && b <= b'z')
-}
-
-fn is_digit(b: u8) -> bool
-    ensures { result ≡ spec.is_digit b }
-{
-    b'0' <= b && b <= b'9'
-}
-
-fn is_tail(b: u8) -> bool
-    ensures { result ≡ spec.is_tail b }
-{
-    is_letter(b) || is_digit(b) || b == b'_'
+    b.is_ascii_alphanumeric() || b == b'_'
 }
 
 /// The byte at a place, or 0 behind the end.
@@ -45,11 +36,11 @@ fn byte(text: &[u8], at: usize) -> u8
 
 /// How many letters, digits and `_` the text begins with.
 fn tail_len(text: &[u8]) -> usize
-    ensures value { result ≡ prefix_len spec.is_tail text.now }
+    ensures value { result ≡ prefix_len is_name_byte text.now }
     ensures within { result ≤ length text.now }
 {
     let mut end = 0;
-    while end < text.len() && is_tail(text[end]) {
+    while end < text.len() && is_name_byte(text[end]) {
         end += 1;
     }
     end
@@ -57,11 +48,11 @@ fn tail_len(text: &[u8]) -> usize
 
 /// How many digits the text begins with.
 fn digits_len(text: &[u8]) -> usize
-    ensures value { result ≡ prefix_len spec.is_digit text.now }
+    ensures value { result ≡ prefix_len is_ascii_digit text.now }
     ensures within { result ≤ length text.now }
 {
     let mut end = 0;
-    while end < text.len() && is_digit(text[end]) {
+    while end < text.len() && text[end].is_ascii_digit() {
         end += 1;
     }
     end
@@ -92,7 +83,7 @@ fn word_kind(word: &[u8], next: u8) -> Kind
 
 /// A name. One of more than 64 bytes is bad at its first byte.
 fn word(text: &[u8]) -> Cut
-    requires { spec.is_letter (slice_index text.now 0) ≡ true }
+    requires { is_ascii_alphabetic (slice_index text.now 0) ≡ true }
     ensures value { result ≡ spec.word text.now }
     ensures within { (1 ≤ result.1) × (result.1 ≤ length text.now) }
 {
@@ -148,7 +139,7 @@ pub fn token(text: &[u8]) -> Cut
     ensures within { (1 ≤ result.1) × (result.1 ≤ length text.now) }
 {
     let b = text[0];
-    if is_letter(b) {
+    if b.is_ascii_alphabetic() {
         word(text)
     } else if b == b'%' {
         level(text)

@@ -7,6 +7,8 @@ mod print;
 mod read;
 mod scope;
 #[cfg(test)]
+mod store_tests;
+#[cfg(test)]
 mod tests;
 
 pub use print::{Printed, print_term};

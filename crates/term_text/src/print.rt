@@ -1,14 +1,14 @@
 //! Printing of terms.
 
-ghost use Rattle.std.specs.Prelude.{◌≡◌, ◌<◌, ◌+◌, ◌^◌, ◌++◌, All, map, length, OnOk, IfOk};
+ghost use Rattle.std.specs.Prelude.{◌≡◌, ◌<◌, ◌+◌, ◌^◌, ◌++◌, [], All, map, length, drop, slice_index_or, OnOk, IfOk};
 ghost use Rattle.std.specs.List.{list_any};
 ghost use Rattle.std.specs.Str.{bytes_eq};
-ghost use Rattle.ld_trees.specs.Term.{depth, depth_all};
+ghost use Rattle.ld_trees.specs.Term.{Pi, Meta, depth, depth_all};
 ghost use Rattle.ld_terms.specs.Names.{level_name};
 ghost use Rattle.ld_terms.specs.Views.{terms_of};
 ghost use Rattle.term_syntax.specs.Printing as spec;
-ghost use Rattle.term_syntax.specs.ReadsBack.{IsContext, NamedFrom, Below};
-ghost use Rattle.term_text.specs.Printed.{hidden, printed_as, PrintedReadsBack};
+ghost use Rattle.term_syntax.specs.ReadsBack.{IsContext, NamedFrom, Below, HasTextNames};
+ghost use Rattle.term_text.specs.Printed.{printed_as, PrintedReadsBack, PrintedIsAscii};
 
 use itoa::Buffer;
 use ld_terms::{Bytes, List, Name, Terms, View};
@@ -30,8 +30,8 @@ const MAX_DEPTH: u64 = 512;
 /// The text of a term in a context whose entries have these names, or its size exactly where it has more than 65,536 nodes or a depth
 /// above 512.
 ///
-/// Each name has to be a name of the texts or the level name of its own level, and there are fewer than 999,999,000 of them. Each
-/// variable that no binder of the term binds has to stand for one of them. Fails for want of memory alone.
+/// Each name has to be a name of the texts or the level name of its own level, and there are fewer than 999,999,000 of them. Fails for
+/// want of memory alone.
 pub fn print_term<T: Terms>(
     alloc: Global,
     terms: &T,
@@ -40,11 +40,12 @@ pub fn print_term<T: Terms>(
 ) -> Result<Printed, AllocError>
     requires held { T.holds terms.now h }
     requires context { IsContext names.now }
-    requires closed { Below (length names.now) (T.means terms.now h) }
     // The text, or the size of a term that is too large.
     ensures exact { IfOk result (λ p. p ≡ printed_as names.now (T.means terms.now h)) }
-    // What is printed is read again as the same term.
-    ensures reads_back { IfOk result (λ p. PrintedReadsBack names.now (T.means terms.now h) p) }
+    // Where each variable that no binder of the term binds stands for one of the names, what is printed is read again as the same term.
+    ensures reads_back { Below (length names.now) (T.means terms.now h) → IfOk result (λ p. PrintedReadsBack names.now (T.means terms.now h) p) }
+    // The text is ASCII where the term's constants have names of the texts.
+    ensures ascii { IfOk result (λ p. HasTextNames (T.means terms.now h) → PrintedIsAscii p) }
 {
     print_any(alloc, terms, names, h)
 }
@@ -143,7 +144,7 @@ pub(crate) fn put_level(out: &mut Vec<u8>, level: u64) -> Result<(), AllocError>
 /// Whether a later entry has the name of the entry at a place.
 fn is_hidden(names: &[Name], place: usize) -> bool
     requires { place < length names.now }
-    ensures { result ≡ hidden names.now place }
+    ensures { result ≡ list_any (bytes_eq (slice_index_or names.now place [])) (drop (place + 1) names.now) }
 {
     has_name(&names[place + 1..], names[place].as_bytes())
 }
@@ -231,6 +232,52 @@ fn print_each<T: Terms>(
 }
 
 #[cycle(print)]
+fn print_product<T: Terms>(
+    out: &mut Vec<u8>,
+    terms: &T,
+    names: &[Name],
+    domain: T::Handle,
+    codomain: T::Handle,
+    k: u64,
+) -> Result<(), AllocError>
+    requires domain { T.holds terms.now domain }
+    requires codomain { T.holds terms.now codomain }
+    requires named { NamedFrom 0 names.now }
+    requires fits { k + depth (Pi (T.means terms.now domain) (T.means terms.now codomain)) < 2 ^ 64 }
+    ensures { OnOk result (out.new.items ≡ out.old.items ++ spec.text names.now k (Pi (T.means terms.now domain) (T.means terms.now codomain))) }
+{
+    if occurs(terms, codomain, 0) {
+        print_binder(out, terms, names, domain, k)?;
+    } else {
+        print_inside(out, is_binder(terms, domain), terms, names, domain, k)?;
+    }
+    put(out, b" -> ")?;
+    print_node(out, terms, names, codomain, k + 1)
+}
+
+#[cycle(print)]
+fn print_meta<T: Terms>(
+    out: &mut Vec<u8>,
+    terms: &T,
+    names: &[Name],
+    m: u32,
+    us: &[T::Handle],
+    k: u64,
+) -> Result<(), AllocError>
+    requires held { All (T.holds terms.now) us.now }
+    requires named { NamedFrom 0 names.now }
+    requires fits { k + depth_all (terms_of (map (T.means terms.now) us.now)) < 2 ^ 64 }
+    ensures { OnOk result (out.new.items ≡ out.old.items ++ spec.text names.now k (Meta m (terms_of (map (T.means terms.now) us.now)))) }
+{
+    let mut buffer = Buffer::new();
+    put(out, b"?")?;
+    put(out, buffer.format(m).as_bytes())?;
+    put(out, b"[")?;
+    print_each(out, terms, names, us, k)?;
+    put(out, b"]")
+}
+
+#[cycle(print)]
 fn print_node<T: Terms>(
     out: &mut Vec<u8>,
     terms: &T,
@@ -259,28 +306,13 @@ fn print_node<T: Terms>(
             put(out, b" => ")?;
             print_node(out, terms, names, body, k + 1)
         }
-        View::Pi(domain, codomain) => {
-            if occurs(terms, codomain, 0) {
-                print_binder(out, terms, names, domain, k)?;
-            } else {
-                print_inside(out, is_binder(terms, domain), terms, names, domain, k)?;
-            }
-            put(out, b" -> ")?;
-            print_node(out, terms, names, codomain, k + 1)
-        }
+        View::Pi(domain, codomain) => print_product(out, terms, names, domain, codomain, k),
         View::Const(name, us) => {
             put(out, name.as_bytes())?;
             put(out, b"(")?;
             print_each(out, terms, names, us, k)?;
             put(out, b")")
         }
-        View::Meta(m, us) => {
-            let mut buffer = Buffer::new();
-            put(out, b"?")?;
-            put(out, buffer.format(m).as_bytes())?;
-            put(out, b"[")?;
-            print_each(out, terms, names, us, k)?;
-            put(out, b"]")
-        }
+        View::Meta(m, us) => print_meta(out, terms, names, m, us, k),
     }
 }

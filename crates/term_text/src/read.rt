@@ -10,10 +10,13 @@
 //!
 //! Each takes a token wherever one continues what was taken before. `depth` is how many terms may still stand inside one another.
 
-ghost use Rattle.std.specs.Prelude.{◌≡◌, [], ◌∷◌, ◌++◌, IfOk, Some, None};
+ghost use Rattle.std.specs.Prelude.{◌≡◌, ℕ, [], ◌∷◌, ◌++◌, IfOk, Some, None, Err};
+ghost use Rattle.term_syntax.specs.Grammar as grammar;
 ghost use Rattle.term_syntax.specs.Reading as spec;
 ghost use Rattle.term_syntax.specs.Reading.{Reads, Gives};
-ghost use Rattle.term_syntax.specs.Grammar.{IsText, IsTermAt, IsRight};
+ghost use Rattle.term_syntax.specs.Grammar.{IsText, IsRight};
+ghost use Rattle.term_syntax.specs.FromPlace.{IsTermAt, IsRefusedAt, StandsAt};
+ghost use Rattle.term_syntax.specs.declared.fault.ReadFault.TheVariants.{Syntax};
 ghost use Rattle.term_syntax.specs.declared.surface.Surface.{Surface};
 
 use crate::cursor::Cursor;
@@ -23,7 +26,7 @@ use term_syntax::{Kind, Label, ReadFault, Shape, Surface};
 
 /// A node of a tree, with the place of its first token.
 fn node(at: usize, shape: Shape) -> Surface
-    ensures { result ≡ spec.node at shape }
+    ensures { result ≡ grammar.node at shape }
 {
     Surface {
         at: at as u64,
@@ -31,19 +34,22 @@ fn node(at: usize, shape: Shape) -> Surface
     }
 }
 
-/// The number of a level name `%k`.
-#[tactic(auto, unfolding(term_syntax::specs::Reading::level_of))]
-fn level_of(text: &[u8]) -> u32
-    ensures { result ≡ spec.level_of text.now }
+/// The number of a level name `%k`. It has at most 9 digits, so that it fits; a greater one would be want of memory.
+#[tactic(auto, unfolding(term_syntax::specs::Grammar::level_of))]
+fn level_of(text: &[u8]) -> Result<u32, AllocError>
+    ensures { IfOk result (λ n. n ≡ grammar.level_of text.now) }
 {
     let mut n: u64 = 0;
     if text.is_empty() {
-        return 0;
+        return Ok(0);
     }
     for b in &text[1..] {
-        n = (10 * n + u64::from(b.saturating_sub(b'0'))).min(u64::from(u32::MAX));
+        n = 10 * n + u64::from(b.saturating_sub(b'0'));
+        if n > u64::from(u32::MAX) {
+            return Err(AllocError);
+        }
     }
-    n as u32
+    Ok(n as u32)
 }
 
 /// A name or a level name. Where `(` follows a name directly, the name is fine and the `(` is refused.
@@ -53,7 +59,7 @@ fn label_at(alloc: Global, cursor: &mut Cursor<'_>) -> Result<Label, ReadFault>
 {
     match cursor.kind() {
         Kind::Name => Ok(Label::Plain(Name::of(alloc, cursor.take())?)),
-        Kind::Level => Ok(Label::Level(level_of(cursor.take()))),
+        Kind::Level => Ok(Label::Level(level_of(cursor.take())?)),
         Kind::Call => {
             cursor.take();
             Err(cursor.refuse())
@@ -120,8 +126,12 @@ fn read_all(alloc: Global, text: &[u8]) -> Result<Surface, ReadFault>
 /// `Syntax` where what was taken isn't a whole term: at the first token or bad byte that doesn't continue it; at the text's length
 /// where the text ends there; at the first byte of a term that stands inside 512 other terms. `Memory` for want of memory alone.
 pub fn read_term_at(alloc: Global, text: &[u8], at: u64) -> Result<(Surface, u64), ReadFault>
-    // What is read is a term of the grammar.
-    ensures found { IfOk result (λ p. IsTermAt text.now at p.0) }
+    // What is read is a term of the grammar, which no next token goes on with, and the place directly after its last token.
+    ensures found { IfOk result (λ p. IsTermAt text.now at p.0 p.1) }
+    // Where a term of the grammar stands that doesn't go on with the next token, that one is read, unless memory runs out.
+    ensures only { (t : Surface) (after : ℕ) → StandsAt text.now at t after → IsRight result (λ p. p ≡ (t, after)) }
+    // A refusal stands at the first token that doesn't continue what was taken, or at the text's end.
+    ensures refused { (place : ℕ) → result ≡ Err (Syntax place) → IsRefusedAt text.now at place }
     // The tree and the place after it, or the place of the refusal, are those of the reading from left to right.
     ensures exact { Gives (λ t i. (t, i.at)) (spec.read_at text.now at) result }
 {

@@ -25,3 +25,7 @@ returns-clause-constants c = refl
 pub returns-clause-metavariables : goal.returns-clause-metavariables
 unfolding digits
 returns-clause-metavariables c = refl
+
+pub returns-clause-redex : goal.returns-clause-redex
+unfolding digits
+returns-clause-redex c = refl

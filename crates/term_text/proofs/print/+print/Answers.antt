@@ -1,4 +1,4 @@
-use Rattle.std.proofs.Common.{◌≡◌, ◌<◌, ◌≤◌, ◌++◌, ◌∷◌, [], length, get_or, map, take, arith, rules, ap, sym, ◌∙◌, subst}
+use Rattle.std.proofs.Common.{◌≡◌, ◌<◌, ◌≤◌, ◌++◌, length, get_or, map, arith, rules, ap, sym, ◌∙◌, subst}
 use Rattle.ld_trees.specs.Term.{depth, depth_all}
 use Rattle.ld_terms.specs.Views.{terms_of}
 use Rattle.term_syntax.specs.Printing as spec

@@ -1,4 +1,4 @@
-use Rattle.std.proofs.Common.{◌≡◌, ◌+◌, ◌*◌, ◌++◌, map, take}
+use Rattle.std.proofs.Common.{◌≡◌, ◌+◌, ◌*◌, ◌++◌, max, map, take}
 use Rattle.ld_trees.specs.Term.{depth, depth_all}
 use Rattle.ld_terms.specs.Views.{terms_of}
 use Rattle.term_syntax.specs.Printing.{texts}
@@ -12,6 +12,12 @@ decreases-print_inside g l = 4 * depth (g.T.Terms.means l.terms.now l.h) + 1
 
 abbrev pub decreases-print_binder : goal.decreases-print_binder
 decreases-print_binder g l = 4 * depth (g.T.Terms.means l.terms.now l.domain) + 1
+
+abbrev pub decreases-print_product : goal.decreases-print_product
+decreases-print_product g l = 4 * max (depth (g.T.Terms.means l.terms.now l.domain)) (depth (g.T.Terms.means l.terms.now l.codomain)) + 2
+
+abbrev pub decreases-print_meta : goal.decreases-print_meta
+decreases-print_meta g l = 4 * depth_all (terms_of (map (g.T.Terms.means l.terms.now) l.us.now)) + 2
 
 abbrev pub decreases-print_each : goal.decreases-print_each
 decreases-print_each g l = 4 * depth_all (terms_of (map (g.T.Terms.means l.terms.now) l.us.now)) + 1

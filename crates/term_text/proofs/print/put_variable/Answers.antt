@@ -1,8 +1,7 @@
-use Rattle.std.proofs.Common.{◌≡◌, ◌-◌, ◌+◌, ◌<◌, ◌≤◌, ◌++◌, [], true, false, length, get_or, arith, ap, sym, ◌∙◌, subst, OnOk}
+use Rattle.std.proofs.Common.{◌≡◌, ◌-◌, ◌+◌, ◌<◌, ◌++◌, [], true, false, length, get_or, arith, ap, sym, ◌∙◌, subst, OnOk}
 use Rattle.ld_terms.specs.Names.{level_name}
 use Rattle.term_syntax.specs.Printing.{level_text}
-use Rattle.term_text.specs.Printed.{hidden}
-use Rattle.term_text.proofs.Entries.{level_shown, name_shown, default_free}
+use Rattle.term_text.proofs.Entries.{hidden, level_shown, name_shown, default_free}
 use Rattle.term_text.proofs.print.put_variable.Goals as goal
 use Rattle.term_text.proofs.print.put_variable.Goals.{then-level-names-via-then-level-names, then-level-names-via-else-level-names+then-is_hidden}
 

@@ -1,4 +1,4 @@
-use Rattle.std.proofs.Common.{◌≡◌, [], ◌∷◌, Some, subst, length, get_or, map, drop, refl, ap, sym, ◌∙◌, Ok}
+use Rattle.std.proofs.Common.{◌≡◌, Some, subst, length, map, refl, ap, sym, ◌∙◌, Ok}
 use Rattle.std.specs.Option.{option_copied}
 use Rattle.ld_trees.specs.Term.{none}
 use Rattle.term_syntax.specs.Scoping.{applied, arguments, below, scope}
