@@ -1,14 +1,14 @@
 -- A line that is still open, run by run.
-use Rattle.std.proofs.Common.{◌≡◌, ℕ, ◌+◌, ◌<◌, ◌^◌, List, [], ◌∷◌, ◌++◌, length, Option, None, Some, All, true, false, sym, ◌∙◌, ap, arith, length-append, append-nil, append_assoc}
+use Rattle.std.proofs.Common.{◌≡◌, ℕ, ◌+◌, List, [], ◌∷◌, ◌++◌, length, Option, None, Some, All, true, false, ◌∙◌, ap, arith, length-append, append-nil, append_assoc}
 use Rattle.std.proofs.KnownBytes.{Consumes-trans, Consumes-kept, Consumes-nil}
-use Rattle.std.specs.Io.KnownBytes.{Consumes, Keeps, IsAtEnd}
+use Rattle.std.specs.Io.KnownBytes.{Consumes, Keeps}
 use Rattle.std.proofs.lemmas.List.Elements.{All-append, All-nil}
 use Rattle.pan_io.specs.Ahead.{ahead}
 use Rattle.pan_io.specs.Text.{is_line_end}
-use Rattle.pan_io.specs.Waiting.{Waiting, UsesRun, line_end}
+use Rattle.pan_io.specs.Waiting.{Waiting, UsesRun}
 use Rattle.pan_io.specs.Cut.{Cuts, EndsAs, end_of}
 use Rattle.pan_io.specs.declared.cut.Cut.{Cut}
-use Rattle.pan_io.specs.declared.cut.Cut.TheVariants.{Whole, Last, Fault, Long}
+use Rattle.pan_io.specs.declared.cut.Cut.TheVariants.{Whole}
 
 -- raw was used since the line began, and it has no line end
 pub record Reads (left left' : Option (List ℕ)) (old new : Waiting) (raw : List ℕ) : Type 0 where

@@ -1,18 +1,18 @@
 -- How a reader's history begins, goes on, and what it says at its end.
-use Rattle.std.proofs.Common.{◌≡◌, ℕ, ◌+◌, ◌<◌, ◌≤◌, ◌^◌, List, [], ◌∷◌, ◌++◌, length, take, All, false, sym, ◌∙◌, ap, arith, append_assoc, append-nil, length-append, Option, None, Some, ◌⊎◌, inl, inr, subst}
+use Rattle.std.proofs.Common.{◌≡◌, ℕ, ◌<◌, ◌^◌, List, [], ◌∷◌, ◌++◌, length, take, sym, ◌∙◌, ap, arith, append-nil, length-append, Option, None, Some, ◌⊎◌, inl, inr, subst}
 use Rattle.std.proofs.KnownBytes.{Consumes-trans}
 use Rattle.std.specs.Io.KnownBytes.{Consumes, IsAtEnd}
 use Rattle.std.specs.Str.Lines.{strip_carriage_return}
 use Rattle.std.proofs.lemmas.List.{take_at}
 use Rattle.pan_io.specs.Ahead.{ahead}
-use Rattle.pan_io.specs.Text.{is_line_end, lines_of, whole_lines_of}
+use Rattle.pan_io.specs.Text.{lines_of, whole_lines_of}
 use Rattle.pan_io.specs.Reader.{Reader, Takes, EndsLine, before_it}
 use Rattle.pan_io.specs.History.{History, IsWhole, Gave, Continues}
 use Rattle.pan_io.specs.declared.taken.Stop.{Stop}
 use Rattle.pan_io.specs.declared.taken.Stop.TheVariants.{Open, Ended, Faulted, Exceeded}
 use Rattle.pan_io.specs.declared.taken.Taken.{Taken}
 use Rattle.pan_io.specs.declared.taken.Taken.TheVariants.{Line, TooLong, End, ReadFault, Long}
-use Rattle.pan_io.proofs.TextLemmas.{nothing_is_whole, whole_more, lines_more, lines_of-last, lines_of-nil, open_end}
+use Rattle.pan_io.proofs.TextLemmas.{nothing_is_whole, whole_more, lines_more, lines_behind, lines_of-last, lines_of-nil, open_end}
 
 -- ---- how it goes on
 
@@ -44,12 +44,12 @@ after_line : (start left left' : Option (List ℕ)) (old new : Reader) (taken : 
 after_line start left left' old new taken raw end seen lines so_far gave takes (inl (byte, going)) =
     continued start left left' old new taken raw end seen lines (lines ++ strip_carriage_return raw ∷ []) Open so_far takes going (
       ap (λ l. l ++ strip_carriage_return raw ∷ []) gave.0 ∙ sym (ap (λ l. lines_of (seen ++ (raw ++ l))) byte ∙ lines_more seen raw gave.1 takes.open_line),
-      subst (λ l. IsWhole (seen ++ (raw ++ l))) (sym byte) (whole_more seen raw gave.1 takes.open_line),
+      subst (λ l. IsWhole (seen ++ (raw ++ l))) (sym byte) (whole_more seen raw),
     )
 after_line start left left' old new taken raw end seen lines so_far gave takes (inr (none, some, ended, at_end)) =
     continued start left left' old new taken raw end seen lines (lines ++ strip_carriage_return raw ∷ []) Ended so_far takes ended (
       ap (λ l. l ++ strip_carriage_return raw ∷ []) gave.0
-          ∙ sym (ap (λ l. lines_of (seen ++ (raw ++ l))) none ∙ ap (λ l. lines_of (seen ++ l)) (append-nil raw) ∙ gave.1.lines raw ∙ ap (λ l. lines_of seen ++ l) (lines_of-last raw takes.open_line some)),
+          ∙ sym (ap (λ l. lines_of (seen ++ (raw ++ l))) none ∙ ap (λ l. lines_of (seen ++ l)) (append-nil raw) ∙ lines_behind seen raw gave.1 ∙ ap (λ l. lines_of seen ++ l) (lines_of-last raw takes.open_line some)),
       at_end,
     )
 
@@ -161,6 +161,6 @@ pub history_rest : (left : Option (List ℕ)) (b : List ℕ) (reader : Reader) (
 history_rest left b reader seen lines so_far (inl going) =
     let gave : Gave Open left reader seen lines = subst (λ s. Gave s left reader seen lines) going so_far.gave in
     let part = part_used b (before_it reader left) seen so_far.consumed in
-    (lines_of part.0, ap lines_of part.1 ∙ gave.1.lines part.0 ∙ ap (λ l. l ++ lines_of part.0) (sym gave.0))
+    (lines_of part.0, ap lines_of part.1 ∙ lines_behind seen part.0 gave.1 ∙ ap (λ l. l ++ lines_of part.0) (sym gave.0))
 history_rest left b reader seen lines so_far (inr ended) =
     ([], (history_end left b reader seen lines so_far ended).0 ∙ sym (append-nil lines))

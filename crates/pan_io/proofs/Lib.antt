@@ -7,3 +7,4 @@ pub mod TextLemmas
 pub mod HistoryLemmas
 pub mod Pieces
 pub mod BookLemmas
+pub mod WholeBooks

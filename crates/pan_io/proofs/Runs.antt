@@ -1,6 +1,6 @@
 -- Runs of bytes that wait.
-use Rattle.std.proofs.Common.{◌≡◌, ℕ, ◌+◌, ◌-◌, ◌<◌, ◌≤◌, List, [], ◌∷◌, ◌++◌, length, take, drop, All, true, false, refl, sym, ◌∙◌, ap, arith, length-append, append-nil, take-append-drop, slice_range, slice_index, add-one}
-use Rattle.std.proofs.lemmas.List.{take_all, take-take, drop-take, drop-drop, length-take}
+use Rattle.std.proofs.Common.{◌≡◌, ℕ, ◌+◌, ◌-◌, ◌<◌, ◌≤◌, List, [], ◌∷◌, ◌++◌, length, take, drop, All, true, false, sym, ◌∙◌, ap, arith, append-nil, take-append-drop, slice_range, slice_index, add-one}
+use Rattle.std.proofs.lemmas.List.{take-take, drop-take, drop-drop, length-take}
 use Rattle.std.proofs.Math.Seq.{take-suc, take-length}
 use Rattle.pan_io.specs.Text.{is_line_end}
 use Rattle.pan_io.specs.Waiting.{Waiting, UsesRun}

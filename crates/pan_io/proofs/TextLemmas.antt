@@ -1,6 +1,7 @@
 -- The lines of joined bytes.
-use Rattle.std.proofs.Common.{◌≡◌, ℕ, ◌+◌, ◌<◌, List, [], ◌∷◌, ◌++◌, length, All, false, true, refl, sym, ◌∙◌, ap, arith, cond, append_assoc, append-nil}
-use Rattle.std.proofs.lemmas.List.Splits.{slice_split_at, slice_split_none, length-slice_split}
+use Rattle.std.proofs.Common.{◌≡◌, ℕ, ◌<◌, List, [], ◌∷◌, ◌++◌, length, All, false, true, refl, sym, ◌∙◌, ap, arith, cond, Bool, map, inl, inr, append_assoc, append-nil, length-append}
+use Rattle.std.specs.List.{onto_first}
+use Rattle.std.proofs.lemmas.List.Splits.{slice_split_at, slice_split_none, slice_split-cons_yes, slice_split-cons_no, length-slice_split}
 use Rattle.std.proofs.lemmas.Bool.{ne_eqb}
 use Rattle.std.specs.Str.Lines.{strip_carriage_return}
 use Rattle.pan_io.specs.Text.{is_line_end, parts, lines_of_parts, whole_of_parts, lines_of, whole_lines_of}
@@ -45,34 +46,70 @@ whole_lines_of-nil = refl
 
 -- ---- bytes behind which no line is open
 
-pub nothing_is_whole : IsWhole []
-nothing_is_whole = record {
-  lines = λ more. ap (λ l. l ++ lines_of more) (sym lines_of-nil);
-  whole = λ more. ap (λ l. l ++ whole_lines_of more) (sym lines_of-nil);
-}
+onto_first-append : (x : ℕ) (ps qs : List (List ℕ)) → 0 < length ps → onto_first x (ps ++ qs) ≡ onto_first x ps ++ qs
+onto_first-append x [] qs some = absurd (omega arith)
+onto_first-append x (p ∷ ps) qs some = refl
 
--- the lines after one more line with its end
+-- a line end cuts there, whatever stands before it
+parts-joined : (front more : List ℕ) → parts (front ++ 10 ∷ more) ≡ parts front ++ parts more
+parts-joined [] more = slice_split-cons_yes is_line_end 10 more refl
+parts-joined (x ∷ front) more = by_byte (is_line_end x) refl (parts-joined front more)
+  where
+    by_byte : (b : Bool) → is_line_end x ≡ b → parts (front ++ 10 ∷ more) ≡ parts front ++ parts more → parts (x ∷ (front ++ 10 ∷ more)) ≡ parts (x ∷ front) ++ parts more
+    by_byte true e ih =
+        slice_split-cons_yes is_line_end x (front ++ 10 ∷ more) e ∙ ap (λ l. [] ∷ l) ih
+        ∙ ap (λ l. l ++ parts more) (sym (slice_split-cons_yes is_line_end x front e))
+    by_byte false e ih =
+        slice_split-cons_no is_line_end x (front ++ 10 ∷ more) e ∙ ap (onto_first x) ih
+        ∙ onto_first-append x (parts front) (parts more) (some_parts front)
+        ∙ ap (λ l. l ++ parts more) (sym (slice_split-cons_no is_line_end x front e))
+
+lines_of_parts-append : (ps qs : List (List ℕ)) → 0 < length qs → lines_of_parts (ps ++ qs) ≡ map strip_carriage_return ps ++ lines_of_parts qs
+lines_of_parts-append [] qs some = refl
+lines_of_parts-append (p ∷ ps) qs some =
+    lines_of_parts-cons p (ps ++ qs) (omega (arith, length-append ps qs)) ∙ ap (λ l. strip_carriage_return p ∷ l) (lines_of_parts-append ps qs some)
+
+whole_of_parts-append : (ps qs : List (List ℕ)) → 0 < length qs → whole_of_parts (ps ++ qs) ≡ map strip_carriage_return ps ++ whole_of_parts qs
+whole_of_parts-append [] qs some = refl
+whole_of_parts-append (p ∷ ps) qs some =
+    whole_of_parts-cons p (ps ++ qs) (omega (arith, length-append ps qs)) ∙ ap (λ l. strip_carriage_return p ∷ l) (whole_of_parts-append ps qs some)
+
+lines_joined : (front more : List ℕ) → lines_of (front ++ 10 ∷ more) ≡ map strip_carriage_return (parts front) ++ lines_of more
+unfolding lines_of
+lines_joined front more = ap lines_of_parts (parts-joined front more) ∙ lines_of_parts-append (parts front) (parts more) (some_parts more)
+
+whole_lines_joined : (front more : List ℕ) → whole_lines_of (front ++ 10 ∷ more) ≡ map strip_carriage_return (parts front) ++ whole_lines_of more
+unfolding whole_lines_of
+whole_lines_joined front more = ap whole_of_parts (parts-joined front more) ∙ whole_of_parts-append (parts front) (parts more) (some_parts more)
+
+lines_to_end : (front : List ℕ) → lines_of (front ++ 10 ∷ []) ≡ map strip_carriage_return (parts front)
+lines_to_end front = lines_joined front [] ∙ ap (λ l. map strip_carriage_return (parts front) ++ l) lines_of-nil ∙ append-nil _
+
+pub lines_behind : (seen more : List ℕ) → IsWhole seen → lines_of (seen ++ more) ≡ lines_of seen ++ lines_of more
+lines_behind seen more (inl none) = rw none (ap (λ l. l ++ lines_of more) (sym lines_of-nil))
+lines_behind seen more (inr (front, is)) =
+    rw is (ap lines_of (append_assoc front (10 ∷ []) more) ∙ lines_joined front more ∙ ap (λ l. l ++ lines_of more) (sym (lines_to_end front)))
+
+pub whole_lines_behind : (seen more : List ℕ) → IsWhole seen → whole_lines_of (seen ++ more) ≡ lines_of seen ++ whole_lines_of more
+whole_lines_behind seen more (inl none) = rw none (ap (λ l. l ++ whole_lines_of more) (sym lines_of-nil))
+whole_lines_behind seen more (inr (front, is)) =
+    rw is (ap whole_lines_of (append_assoc front (10 ∷ []) more) ∙ whole_lines_joined front more ∙ ap (λ l. l ++ whole_lines_of more) (sym (lines_to_end front)))
+
+pub nothing_is_whole : IsWhole []
+nothing_is_whole = inl refl
+
+-- one more line with its end
+pub whole_more : (seen raw : List ℕ) → IsWhole (seen ++ (raw ++ 10 ∷ []))
+whole_more seen raw = inr (seen ++ raw, sym (append_assoc seen raw (10 ∷ [])))
+
 pub lines_more : (seen raw : List ℕ) → IsWhole seen → All (λ b. is_line_end b ≡ false) raw
     → lines_of (seen ++ (raw ++ 10 ∷ [])) ≡ lines_of seen ++ strip_carriage_return raw ∷ []
 lines_more seen raw w h =
-    w.lines (raw ++ 10 ∷ []) ∙ ap (λ l. lines_of seen ++ l) (lines_of-line raw [] h ∙ ap (λ l. strip_carriage_return raw ∷ l) lines_of-nil)
-
-regroup : (seen raw more : List ℕ) → (seen ++ (raw ++ 10 ∷ [])) ++ more ≡ seen ++ (raw ++ 10 ∷ more)
-regroup seen raw more = append_assoc seen (raw ++ 10 ∷ []) more ∙ ap (λ l. seen ++ l) (append_assoc raw (10 ∷ []) more)
-
-pub whole_more : (seen raw : List ℕ) → IsWhole seen → All (λ b. is_line_end b ≡ false) raw → IsWhole (seen ++ (raw ++ 10 ∷ []))
-whole_more seen raw w h = record {
-  lines = λ more.
-      ap lines_of (regroup seen raw more) ∙ w.lines (raw ++ 10 ∷ more) ∙ ap (λ l. lines_of seen ++ l) (lines_of-line raw more h)
-      ∙ sym (append_assoc (lines_of seen) (strip_carriage_return raw ∷ []) (lines_of more)) ∙ ap (λ l. l ++ lines_of more) (sym (lines_more seen raw w h));
-  whole = λ more.
-      ap whole_lines_of (regroup seen raw more) ∙ w.whole (raw ++ 10 ∷ more) ∙ ap (λ l. lines_of seen ++ l) (whole_lines_of-line raw more h)
-      ∙ sym (append_assoc (lines_of seen) (strip_carriage_return raw ∷ []) (whole_lines_of more)) ∙ ap (λ l. l ++ whole_lines_of more) (sym (lines_more seen raw w h));
-}
+    lines_behind seen (raw ++ 10 ∷ []) w ∙ ap (λ l. lines_of seen ++ l) (lines_of-line raw [] h ∙ ap (λ l. strip_carriage_return raw ∷ l) lines_of-nil)
 
 -- the whole lines where a line is open
 pub open_end : (seen raw end : List ℕ) (lines : List (List ℕ)) → IsWhole seen → lines ≡ lines_of seen → All (λ b. is_line_end b ≡ false) raw → end ≡ []
     → whole_lines_of (seen ++ (raw ++ end)) ≡ lines
 open_end seen raw end lines w given open_line none =
-    ap (λ l. whole_lines_of (seen ++ (raw ++ l))) none ∙ ap (λ l. whole_lines_of (seen ++ l)) (append-nil raw) ∙ w.whole raw
+    ap (λ l. whole_lines_of (seen ++ (raw ++ l))) none ∙ ap (λ l. whole_lines_of (seen ++ l)) (append-nil raw) ∙ whole_lines_behind seen raw w
     ∙ ap (λ l. lines_of seen ++ l) (whole_lines_of-open raw open_line) ∙ append-nil (lines_of seen) ∙ sym given

@@ -8,10 +8,15 @@ use Rattle.pan_io.specs.declared.taken.Stop.TheVariants.{Open, Ended, Faulted, E
 use Rattle.pan_io.specs.declared.taken.Taken.{Taken}
 use Rattle.pan_io.specs.declared.taken.Taken.TheVariants.{Line, TooLong, End, ReadFault, Long}
 
--- no line is open at the end of these bytes, so what follows has its own lines
-pub record IsWhole (seen : List ℕ) : Type 0 where
-  pub lines : (more : List ℕ) → lines_of (seen ++ more) ≡ lines_of seen ++ lines_of more
-  pub whole : (more : List ℕ) → whole_lines_of (seen ++ more) ≡ lines_of seen ++ whole_lines_of more
+-- no line is open at the end of these bytes: there is no byte, or the last one is a line end
+abbrev pub IsWhole : List ℕ → Type 0
+IsWhole seen = (seen ≡ []) ⊎ ((front : List ℕ) × (seen ≡ front ++ 10 ∷ []))
+
+-- what follows such bytes has its own lines
+abbrev pub LinesBehindWhole : Type 0
+LinesBehindWhole = (seen more : List ℕ) → IsWhole seen
+    → (lines_of (seen ++ more) ≡ lines_of seen ++ lines_of more)
+    × (whole_lines_of (seen ++ more) ≡ lines_of seen ++ whole_lines_of more)
 
 -- which lines were given: all of the bytes used, or after a fault or at the limit those that were whole in them
 abbrev pub Gave : Stop → Option (List ℕ) → Reader → List ℕ → List (List ℕ) → Type 0

@@ -10,3 +10,4 @@ pub mod Worked
 pub mod History
 pub mod Put
 pub mod Books
+pub mod Whole

@@ -14,9 +14,13 @@ use crate::source::Source;
 /// Where a line ends: at its line end, at the end of the input, or not yet.
 #[derive(Debug, Clone, Copy, PartialEq, Eq, Drop)]
 pub enum Cut {
+    /// At its line end, which was used with it.
     Whole,
+    /// At the end of the input. The line may have no byte.
     Last,
+    /// Not yet: the source failed.
     Fault,
+    /// Not yet: the session has used as many bytes as it may.
     Long,
 }
 

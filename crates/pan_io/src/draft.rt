@@ -8,8 +8,11 @@ ghost use Rattle.pan_io.specs.Kept.{Kept, Holds};
 use std::alloc::{AllocError, Global};
 use std::marker::Model;
 
+/// The most bytes of a line that is kept.
+pub const MAX_LINE: u64 = 65_536;
+
 /// One more than the longest line, since a carriage return may follow.
-const ROOM: usize = 65_537;
+const ROOM: usize = MAX_LINE as usize + 1;
 
 /// Contracts see how many bytes came, the first of them, and the last one.
 #[derive(Drop)]
@@ -87,7 +90,7 @@ impl Draft {
         ensures none { (raw : List ℕ) → Holds self.now raw → 65536 < length (strip_carriage_return raw) → result ≡ 0 }
     {
         let len = self.line_len();
-        if len > 65_536 { 0 } else { len as usize }
+        if len > MAX_LINE { 0 } else { len as usize }
     }
 
     /// The first bytes.

@@ -4,7 +4,7 @@ ghost use Rattle.std.specs.Prelude.{◌≡◌, ℕ, ◌≤◌, ◌-◌, ◌^◌}
 
 use crate::source::Failed;
 
-/// How often calls have failed. It stays at the greatest `u64` once it is there.
+/// The number of failed calls so far. It stays at the greatest `u64` once it is there.
 #[derive(Debug, Drop)]
 pub struct FaultCount {
     count: u64,

@@ -16,9 +16,13 @@ pub const MAX_BYTES: u64 = 1_099_511_627_776;
 /// What there is to read on.
 #[derive(Debug, Clone, Copy, PartialEq, Eq, Drop)]
 pub enum Ready {
+    /// Bytes wait, and may be used.
     Bytes,
+    /// No byte waits, and the input has ended.
     End,
+    /// No byte waits, and the source failed.
     Fault,
+    /// Bytes wait, and the session has used as many as it may.
     Long,
 }
 

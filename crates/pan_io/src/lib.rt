@@ -11,6 +11,7 @@ mod draft;
 mod fault_count;
 mod folder;
 mod input;
+mod laws;
 mod lines;
 mod memory_shelf;
 mod memory_sink;
@@ -23,11 +24,14 @@ mod standard;
 mod sure;
 mod system;
 mod taken;
+mod whole;
 mod worked;
 
+pub use draft::MAX_LINE;
 pub use folder::Folder;
 pub use input::MAX_BYTES;
-pub use lines::{Lines, MAX_LINE};
+pub use laws::lines_behind_whole;
+pub use lines::Lines;
 pub use memory_shelf::{Book, MemoryShelf};
 pub use memory_sink::MemorySink;
 pub use memory_source::MemorySource;
@@ -38,6 +42,7 @@ pub use source::{Failed, Source};
 pub use standard::{StdErr, StdIn, StdOut};
 pub use sure::{SureSink, SureSource};
 pub use taken::{Stop, Taken};
+pub use whole::{Unread, read_book};
 pub use worked::worked_lines;
 
 #[cfg(test)]

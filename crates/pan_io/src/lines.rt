@@ -6,15 +6,12 @@ ghost use Rattle.pan_io.specs.Kept.{Holds};
 ghost use Rattle.pan_io.specs.Reader.{IsKind};
 
 use crate::cut::{Cut, cut_line};
-use crate::draft::Draft;
+use crate::draft::{Draft, MAX_LINE};
 use crate::input::{Input, MAX_BYTES};
 use crate::source::Source;
 use crate::taken::{Stop, Taken};
 use std::alloc::{AllocError, Global};
 use std::marker::Model;
-
-/// The most bytes of a line that is kept.
-pub const MAX_LINE: u64 = 65_536;
 
 /// Reads the lines of a source. A line ends at byte 0x0A or at the end of the input, and one 0x0D
 /// directly before that end is no part of it.
@@ -59,7 +56,9 @@ impl Lines {
         })
     }
 
-    /// The line that the last `take` gave, if it gave one.
+    /// The line that the last `take` gave. Before the first one, and after `TooLong`, `ReadFault`
+    /// or `Long`, there are no bytes; after `End` neither, unless the input's last line had no line
+    /// end: `End` leaves that line shown.
     pub fn line(&self) -> &[u8]
         ensures { result.now ≡ self.now.line }
     {

@@ -16,7 +16,7 @@ pub trait Shelf {
     ghost is_open: { Self → Bool };
     /// The bytes that the open book has left, where the shelf tells its books.
     ghost left: { Self → Option (List ℕ) };
-    /// How often a call has failed. The count stays at 2^64 - 1 once it is there.
+    /// The number of failed calls so far. It stays at 2^64 - 1 once it is there.
     ghost faults: { Self → ℕ };
 
     /// Makes the named book the open one, from its first byte. Where the books are told, a name

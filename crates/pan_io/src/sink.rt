@@ -11,7 +11,7 @@ use crate::source::Failed;
 pub trait Sink {
     /// The bytes that were taken, or `None` where the sink does not tell them.
     ghost taken: { Self → Option (List ℕ) };
-    /// How often a call has failed. The count stays at 2^64 - 1 once it is there.
+    /// The number of failed calls so far. It stays at 2^64 - 1 once it is there.
     ghost faults: { Self → ℕ };
 
     /// Takes bytes from the front of the piece, at least one where it has any, and answers how

@@ -13,7 +13,7 @@ pub struct Failed;
 pub trait Source {
     /// The bytes that are left, or `None` where the source does not tell them.
     ghost left: { Self → Option (List ℕ) };
-    /// How often a call has failed. The count stays at 2^64 - 1 once it is there.
+    /// The number of failed calls so far. It stays at 2^64 - 1 once it is there.
     ghost faults: { Self → ℕ };
 
     /// Moves a prefix of what is left into the front of the buffer, and answers how many bytes.

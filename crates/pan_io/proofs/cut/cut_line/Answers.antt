@@ -1,4 +1,4 @@
-use Rattle.std.proofs.Common.{◌≤◌, ◌++◌, ◌∙◌, arith}
+use Rattle.std.proofs.Common.{◌++◌, ◌∙◌, arith}
 use Rattle.pan_io.proofs.CutLemmas.{reads_ready, reads_run, cut_whole}
 use Rattle.pan_io.proofs.cut.cut_line.Goals as goal
 

@@ -1,4 +1,4 @@
-use Rattle.std.proofs.Common.{◌≡◌, ap, sym, ◌∙◌, arith, true}
+use Rattle.std.proofs.Common.{◌≡◌, ap, sym, ◌∙◌, true}
 use Rattle.std.specs.Str.{bytes_eq}
 use Rattle.pan_io.specs.Books.{NamedBytes}
 use Rattle.pan_io.proofs.BookLemmas.{named_here}

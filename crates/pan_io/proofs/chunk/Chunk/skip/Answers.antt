@@ -1,4 +1,4 @@
-use Rattle.std.proofs.Common.{◌≡◌, ℕ, ◌+◌, ◌-◌, ◌≤◌, arith, ap, drop, length, slice_range}
+use Rattle.std.proofs.Common.{◌+◌, ◌-◌, ◌≤◌, arith, ap, drop, length}
 use Rattle.std.proofs.lemmas.List.{length-take}
 use Rattle.pan_io.proofs.Runs.{range_skip}
 use Rattle.pan_io.proofs.chunk.Chunk.skip.Goals as goal
