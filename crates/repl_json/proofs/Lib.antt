@@ -1,2 +1,4 @@
 mod JsonLemmas
+mod EachLemmas
+mod ListLemmas
 mod PartLemmas

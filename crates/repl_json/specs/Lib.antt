@@ -1,4 +1,12 @@
+pub mod Words
 pub mod Json
+pub mod Field
+pub mod Fields
+pub mod Command
+pub mod Table
 pub mod Request
+pub mod Names
 pub mod Reply
+pub mod Bad
 pub mod Parts
+pub mod Examples

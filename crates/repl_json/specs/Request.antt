@@ -1,43 +1,51 @@
--- What a line asks for.
-use Rattle.std.specs.Prelude.{ℕ, ◌==◌, ◌||◌, not, Bool, List, take, drop, Option, Some, None, codes, if◌then◌else◌}
-use Rattle.std.specs.List.{prefix_len}
-use Rattle.std.specs.Str.{bytes_eq}
-use Rattle.repl_json.specs.Json.{expr_in}
-use Rattle.repl_json.specs.declared.request.Ask.{Ask}
-use Rattle.repl_json.specs.declared.request.Ask.TheVariants.{Bad, Echo}
-use Rattle.repl_json.specs.declared.request.Bad.TheVariants.{NotYet}
+-- The requests of a line that isn't blank and isn't too long.
+use Rattle.std.specs.Prelude.{ℕ, List, [], ◌∷◌, if◌then◌else◌, Option, Some, None, Ok}
+use Rattle.serde_json.specs.Data.{Data, null}
+use Rattle.repl_json.specs.Command.{command_named, is_built}
+use Rattle.repl_json.specs.Fields as field
+use Rattle.repl_json.specs.Json.{object_of}
+use Rattle.repl_json.specs.Table.{Reading, ◌>>=◌, need, refused, all_or_refused, asked}
+use Rattle.repl_json.specs.Words.{is_blank_line, from_word, begins_object, word_of, rest_of}
+use Rattle.repl_json.specs.declared.command.Command.{Command}
+use Rattle.repl_json.specs.declared.request.Bad.TheVariants as bad
 use Rattle.repl_json.specs.declared.request.Request.{Request}
 
--- a space or a tab
-abbrev pub is_blank : ℕ → Bool
-is_blank b = (b == 32) || (b == 9)
+-- the most bytes that a line may have
+abbrev pub longest_line : ℕ
+longest_line = 65536
 
--- without the blanks at its front
-abbrev pub from_word : List ℕ → List ℕ
-from_word line = drop (prefix_len is_blank line) line
+-- 4. the command is none of the protocol; 5. a field is refused
+abbrev pub by_command : Data → Option Command → List Request
+by_command payload None = refused bad.Command ∷ []
+by_command payload (Some command) = if is_built command then asked command payload else refused bad.NotYet ∷ []
 
-abbrev pub word_length : List ℕ → ℕ
-word_length line = prefix_len (λ b. not (is_blank b)) (from_word line)
+unfoldable pub requests_by : List ℕ → Data → List Request
+requests_by word payload = by_command payload (command_named word)
 
--- the first word, up to a space or a tab
-abbrev pub first_word : List ℕ → List ℕ
-first_word line = take (word_length line) (from_word line)
+-- 2. `cmd` is missing or isn't a text; 3. `payload` isn't missing and isn't an object
+abbrev pub parts_of : Data → Reading (List Request)
+parts_of whole = do
+  word ← need field.cmd whole
+  payload ← need field.payload whole
+  Ok (requests_by word payload)
 
--- what stands behind it
-abbrev pub rest_of : List ℕ → List ℕ
-rest_of line = drop (word_length line) (from_word line)
+-- 1. what is to be read as JSON isn't an object
 
--- the units of fuel where a line names none
-abbrev pub default_fuel : ℕ
-default_fuel = 100000
+abbrev pub of_object : Option Data → List Request
+of_object None = refused bad.Json ∷ []
+of_object (Some whole) = all_or_refused (parts_of whole)
 
-abbrev pub echo_ask : Option (List ℕ) → Ask
-echo_ask (Some expr) = Echo 0 expr default_fuel
-echo_ask None = Bad NotYet
+abbrev pub of_payload : List ℕ → Option Data → List Request
+of_payload word None = refused bad.Json ∷ []
+of_payload word (Some payload) = requests_by word payload
 
--- `expr.echo` and a JSON object whose only key is `expr`, with a text; every other line isn't built yet
-abbrev pub ask_of : List ℕ → Ask
-ask_of line = if bytes_eq (first_word line) (codes "expr.echo") then echo_ask (expr_in (rest_of line)) else Bad NotYet
+-- the payload behind a command's word: a rest of blanks alone is none
+abbrev pub payload_of : List ℕ → Option Data
+payload_of rest = if is_blank_line rest then Some null else object_of rest
 
-unfoldable pub request_of : List ℕ → Request
-request_of line = record { after = 0; ask = ask_of line }
+-- of a line without the blanks at its front
+abbrev pub requests_from : List ℕ → List Request
+requests_from front = if begins_object front then of_object (object_of front) else of_payload (word_of front) (payload_of (rest_of front))
+
+unfoldable pub requests_of : List ℕ → List Request
+requests_of line = requests_from (from_word line)

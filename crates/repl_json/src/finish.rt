@@ -5,7 +5,7 @@ ghost use Rattle.std.specs.List.{flat_map};
 ghost use Rattle.std.specs.Io.KnownBytes.{Appends};
 ghost use Rattle.pan_io.specs.Faults.{HasCause};
 ghost use Rattle.pan_io.specs.Put.{AppendsPrefix};
-ghost use Rattle.repl_json.specs.Reply.{text, body_text, text_around};
+ghost use Rattle.repl_json.specs.Reply.{text, body_text, text_around, counted_text, stat_text};
 ghost use Rattle.repl_json.specs.Parts.{part_bytes};
 
 use crate::reply::{Body, Line};
@@ -59,7 +59,76 @@ pub fn finish_line<K: Sink>(line: &Line, sink: &mut K) -> Result<(), Failed>
 {
     match line {
         Line::Given { body, seq, id } => put_body(sink, body, *seq, *id),
+        Line::Ahead { length, seq } => {
+            put_counted(sink, b"{\"error\":\"ahead\",\"length\":", *length, *seq)
+        }
+        Line::UnknownEnv { id, seq } => {
+            put_counted(sink, b"{\"error\":\"unknownEnv\",\"id\":", *id, *seq)
+        }
+        Line::UnknownState { id, seq } => {
+            put_counted(sink, b"{\"error\":\"unknownState\",\"id\":", *id, *seq)
+        }
+        Line::Deleted { id, seq } => put_counted(sink, b"{\"deleted\":", *id, *seq),
+        Line::Reset { deleted, seq } => put_counted(sink, b"{\"deleted\":", *deleted, *seq),
+        Line::Stat {
+            envs,
+            live,
+            seq,
+            states,
+        } => put_stat(sink, *envs, *live, *seq, *states),
+        Line::Memory { seq } => put_parts(
+            sink,
+            &[
+                Part::Text(b"{\"error\":\"memory\",\"seq\":"),
+                Part::Number(*seq),
+                Part::Text(b"}\n"),
+            ],
+        ),
     }
+}
+
+/// A front, a number, and the number of entries.
+fn put_counted<K: Sink>(sink: &mut K, front: &[u8], number: u64, seq: u64) -> Result<(), Failed>
+    ensures ok { OnOk result (Appends (K.taken sink.old) (K.taken sink.new) (counted_text front.now number seq)) }
+    ensures failed { OnErr result (AppendsPrefix (K.taken sink.old) (K.taken sink.new) (counted_text front.now number seq)) }
+    ensures tells { is_some (K.taken sink.new) ≡ is_some (K.taken sink.old) }
+    ensures cause { HasCause (K.faults sink.old) (K.faults sink.new) result }
+{
+    let parts = [
+        Part::Text(front),
+        Part::Number(number),
+        Part::Text(b",\"seq\":"),
+        Part::Number(seq),
+        Part::Text(b"}\n"),
+    ];
+    put_parts(sink, &parts)
+}
+
+/// The counts of a tree.
+fn put_stat<K: Sink>(
+    sink: &mut K,
+    envs: u64,
+    live: u64,
+    seq: u64,
+    states: u64,
+) -> Result<(), Failed>
+    ensures ok { OnOk result (Appends (K.taken sink.old) (K.taken sink.new) (stat_text envs live seq states)) }
+    ensures failed { OnErr result (AppendsPrefix (K.taken sink.old) (K.taken sink.new) (stat_text envs live seq states)) }
+    ensures tells { is_some (K.taken sink.new) ≡ is_some (K.taken sink.old) }
+    ensures cause { HasCause (K.faults sink.old) (K.faults sink.new) result }
+{
+    let parts = [
+        Part::Text(b"{\"envs\":"),
+        Part::Number(envs),
+        Part::Text(b",\"live\":"),
+        Part::Number(live),
+        Part::Text(b",\"seq\":"),
+        Part::Number(seq),
+        Part::Text(b",\"states\":"),
+        Part::Number(states),
+        Part::Text(b"}\n"),
+    ];
+    put_parts(sink, &parts)
 }
 
 /// The pieces of a body, with its numbers between them.

@@ -1,9 +1,13 @@
-//! The rest of a line as JSON.
+//! Bytes as a JSON object.
 
-ghost use Rattle.std.specs.Prelude.{◌≡◌, ℕ, List, Option, Some, None, option_map, IfOk, string_bytes};
+ghost use Rattle.std.specs.Prelude.{◌≡◌, option_map, IfOk};
+ghost use Rattle.serde_json.specs.Data.{null};
 ghost use Rattle.serde_json.specs.View.{view};
-ghost use Rattle.repl_json.specs.Json.{data_of, lone_expr, expr_in};
+ghost use Rattle.repl_json.specs.Field.{value_in};
+ghost use Rattle.repl_json.specs.Fields as field;
+ghost use Rattle.repl_json.specs.Json.{data_of, object_of};
 
+use crate::field::found;
 use serde_json::{Category, Value};
 use std::alloc::{AllocError, Global};
 
@@ -20,27 +24,31 @@ fn value_of(alloc: Global, bytes: &[u8]) -> Result<Option<Value>, AllocError>
     }
 }
 
-/// The text under the one key `expr` of an object that has no other.
-#[tactic(auto, unfolding(crate::specs::Json::lone_expr))]
-fn lone_expr_of(value: &Value) -> Option<&str>
-    ensures { option_map (λ s. s.now) result ≡ lone_expr (view value.now) }
+/// The JSON object that the bytes are, or `None` exactly where they are none.
+#[tactic(auto, unfolding(crate::specs::Json::object_of))]
+pub fn object_of(alloc: Global, bytes: &[u8]) -> Result<Option<Value>, AllocError>
+    ensures { IfOk result (λ o. option_map view o ≡ object_of bytes.now) }
 {
-    let map = value.as_object()?;
-    if map.len() != 1 {
-        return None;
-    }
-    value.get("expr").and_then(Value::as_str)
-}
-
-/// The text under the one key `expr` of the object that the bytes are.
-pub fn expr_of(alloc: Global, rest: &[u8]) -> Result<Option<String>, AllocError>
-    ensures { IfOk result (λ o. option_map string_bytes o ≡ expr_in rest.now) }
-{
-    let Some(value) = value_of(alloc, rest)? else {
+    let Some(value) = value_of(alloc, bytes)? else {
         return Ok(None);
     };
-    match lone_expr_of(&value) {
-        Some(text) => Ok(Some(String::from_str(alloc, text)?)),
-        None => Ok(None),
+    if !value.is_object() {
+        return Ok(None);
     }
+    Ok(Some(value))
+}
+
+/// The field `payload`, with null where it is missing.
+#[tactic(auto, unfolding(crate::specs::Field::value_in))]
+pub fn payload_in<'v>(object: &'v Value, nothing: &'v Value) -> Option<&'v Value>
+    requires { view nothing.now ≡ null }
+    ensures { option_map (λ v. view v.now) result ≡ value_in field.payload (view object.now) }
+{
+    let Some(payload) = found(object, "payload") else {
+        return Some(nothing);
+    };
+    if !payload.is_object() {
+        return None;
+    }
+    Some(payload)
 }

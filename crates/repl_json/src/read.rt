@@ -1,40 +1,78 @@
 //! The requests of a line.
 
-ghost use Rattle.std.specs.Prelude.{◌≡◌, ◌≤◌, ◌∷◌, [], IfOk, length};
-ghost use Rattle.repl_json.specs.Request.{request_of, ask_of, default_fuel};
+ghost use Rattle.std.specs.Prelude.{◌≡◌, ◌≤◌, IfOk, Some, false, length};
+ghost use Rattle.serde_json.specs.View.{view};
+ghost use Rattle.repl_json.specs.Request.{longest_line, of_object, of_payload, payload_of, requests_by, requests_of};
+ghost use Rattle.repl_json.specs.Words.{is_blank_line};
 
-use crate::payload::expr_of;
-use crate::request::{Ask, Bad, Request};
-use crate::words::split_word;
+use crate::asked::{asked, one, refuse, refuse_field};
+use crate::command::{command_named, is_built};
+use crate::field::text;
+use crate::payload::{object_of, payload_in};
+use crate::request::{Bad, Request};
+use crate::words::{begins_object, from_word, is_blank_line, split_word};
 use ld_terms::List;
+use serde_json::Value;
 use std::alloc::{AllocError, Global};
 
-/// The units of fuel where a line names none.
-const DEFAULT_FUEL: u64 = 100_000;
-
-fn ask_of(alloc: Global, line: &[u8]) -> Result<Ask, AllocError>
-    ensures { IfOk result (λ a. a ≡ ask_of line.now) }
+/// The requests of a command's word with its payload.
+#[tactic(auto, unfolding(crate::specs::Request::requests_by))]
+fn requests_by(alloc: Global, word: &[u8], payload: &Value) -> Result<List<Request>, AllocError>
+    ensures { IfOk result (λ rs. rs ≡ requests_by word.now (view payload.now)) }
 {
-    let (word, rest) = split_word(line);
-    if word != b"expr.echo".as_slice() {
-        return Ok(Ask::Bad(Bad::NotYet));
+    let Some(command) = command_named(word) else {
+        return one(alloc, refuse(Bad::Command));
+    };
+    if !is_built(command) {
+        return one(alloc, refuse(Bad::NotYet));
     }
-    match expr_of(alloc, rest)? {
-        Some(text) => Ok(Ask::Echo {
-            env: 0,
-            expr: List::of(text.into_bytes()),
-            fuel: DEFAULT_FUEL,
-        }),
-        None => Ok(Ask::Bad(Bad::NotYet)),
-    }
+    asked(alloc, command, payload)
 }
 
-/// The requests of a line that isn't blank, in order. At this stage each line gives one. Fails for want of memory alone.
-#[tactic(auto, unfolding(crate::specs::Request::request_of))]
-pub fn read_request(alloc: Global, line: &[u8]) -> Result<List<Request>, AllocError>
-    ensures { IfOk result (λ rs. rs ≡ request_of line.now ∷ []) }
+/// The requests of an object with its command and its payload.
+fn requests_of_object(alloc: Global, object: &Value) -> Result<List<Request>, AllocError>
+    ensures { IfOk result (λ rs. rs ≡ of_object (Some (view object.now))) }
 {
-    let ask = ask_of(alloc, line)?;
-    let requests = vec![in alloc; Request { after: 0, ask }]?;
-    Ok(List::of(requests))
+    let Some(word) = text(object, "cmd") else {
+        return one(alloc, refuse_field(alloc, "cmd")?);
+    };
+    let nothing = Value::Null;
+    let Some(payload) = payload_in(object, &nothing) else {
+        return one(alloc, refuse_field(alloc, "payload")?);
+    };
+    requests_by(alloc, word.as_bytes(), payload)
+}
+
+/// The requests of a command's word and what stands behind it.
+fn requests_of_word(alloc: Global, word: &[u8], rest: &[u8]) -> Result<List<Request>, AllocError>
+    ensures { IfOk result (λ rs. rs ≡ of_payload word.now (payload_of rest.now)) }
+{
+    if is_blank_line(rest) {
+        return requests_by(alloc, word, &Value::Null);
+    }
+    let Some(payload) = object_of(alloc, rest)? else {
+        return one(alloc, refuse(Bad::Json));
+    };
+    requests_by(alloc, word, &payload)
+}
+
+/// The requests of a line that isn't blank and has at most 65,536 bytes, in order: one, or one for each try of `goal.tries`.
+///
+/// # Errors
+/// `AllocError` for want of memory alone.
+#[tactic(auto, unfolding(crate::specs::Request::requests_of))]
+pub fn read_request(alloc: Global, line: &[u8]) -> Result<List<Request>, AllocError>
+    requires not_blank { is_blank_line line.now ≡ false }
+    requires short { length line.now ≤ longest_line }
+    ensures { IfOk result (λ rs. rs ≡ requests_of line.now) }
+{
+    let front = from_word(line);
+    if !begins_object(front) {
+        let (word, rest) = split_word(front);
+        return requests_of_word(alloc, word, rest);
+    }
+    let Some(object) = object_of(alloc, front)? else {
+        return one(alloc, refuse(Bad::Json));
+    };
+    requests_of_object(alloc, &object)
 }

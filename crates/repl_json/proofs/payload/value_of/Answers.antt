@@ -1,4 +1,3 @@
-use Rattle.std.proofs.Common.{◌≡◌, ℕ, List, Option, Some, None}
 use Rattle.repl_json.proofs.JsonLemmas.{data_read, data_none}
 use Rattle.repl_json.proofs.payload.value_of.Goals as goal
 

@@ -1,6 +1,6 @@
 use Rattle.std.proofs.Common.{◌≡◌, ◌+◌, ◌-◌, ◌≤◌, length, drop, not}
 use Rattle.std.specs.List.{prefix_len}
-use Rattle.repl_json.specs.Request.{is_blank}
+use Rattle.repl_json.specs.Words.{is_blank}
 use Rattle.repl_json.proofs.words.unbroken.Given as goal
 
 abbrev pub invariant-loop-end : goal.invariant-loop-end
