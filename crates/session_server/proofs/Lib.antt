@@ -1,0 +1,4 @@
+pub mod Fit
+pub mod AnswerLemmas
+pub mod InputLemmas
+pub mod SessionLemmas

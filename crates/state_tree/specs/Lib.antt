@@ -1,0 +1,10 @@
+pub mod Value
+pub mod Server
+pub mod Again
+pub mod Holdings
+pub mod Results
+pub mod Prepared
+pub mod TreeModel
+pub mod Enters
+pub mod Laws
+pub mod Toy
