@@ -1,0 +1,11 @@
+pub mod Follow
+pub mod Meanings
+pub mod ParameterNames
+pub mod Legal
+pub mod Entering
+pub mod Kept
+pub mod Places
+pub mod Terms
+pub mod Tokens
+pub mod Turns
+pub mod Whole

@@ -1,0 +1,9 @@
+pub mod Reading
+pub mod Grammar
+pub mod Items
+pub mod Book
+pub mod Answers
+pub mod Named
+pub mod Checked
+pub mod Faults
+pub mod Entering

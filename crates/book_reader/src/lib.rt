@@ -1,0 +1,19 @@
+//! Books of λD: texts of primitives and definitions, read whole and then checked item by item behind an environment.
+#![tactic(auto)]
+
+mod book;
+mod checked;
+mod fault;
+mod items;
+mod lex;
+mod parameters;
+mod read;
+mod reader;
+mod source;
+
+pub use book::read_book;
+pub use fault::BookFault;
+pub use source::{Parameter, Source};
+
+#[cfg(test)]
+mod tests;
