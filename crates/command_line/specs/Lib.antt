@@ -1,0 +1,8 @@
+-- What the clauses of this crate cite.
+pub mod Given
+pub mod Built
+pub mod Form
+pub mod Seen
+pub mod Parsed
+pub mod Usage
+pub mod Worked

@@ -1,0 +1,7 @@
+-- The usage note: a line for each form that is built.
+use Rattle.std.specs.Prelude.{ℕ, List, ◌++◌, codes}
+
+abbrev pub usage_note : List ℕ
+usage_note =
+    codes "usage: panto run [--book FILE] [--entries N]\n"
+    ++ codes "       panto check FILE\n"

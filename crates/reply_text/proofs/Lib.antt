@@ -1,0 +1,3 @@
+pub mod ContextNames
+pub mod Lists
+pub mod Places
