@@ -1,8 +1,9 @@
-//! panto, a proof-search server over λD: the program. It hands its words, standard input, standard output and standard error to
-//! the top call, and ends with the code of the status.
+//! panto, a proof-search server over λD: the program. It hands its words, the folder where it runs,
+//! standard input, standard output and standard error to the top call, and ends with the code of
+//! the status.
 #![tactic(auto)]
 
-use pan_io::{StdErr, StdIn, StdOut};
+use pan_io::{Folder, StdErr, StdIn, StdOut};
 use panto_cli::{Status, panto_run, write_note};
 use std::env;
 use std::io::ErrorKind;
@@ -28,11 +29,19 @@ fn words_of(rt: &HostRuntime) -> Result<Vec<String>, Status> {
 /// Runs on the standard streams. An error is a status whose note isn't written yet.
 fn run(rt: &HostRuntime, notes: &mut StdErr) -> Result<Status, Status> {
     let words = words_of(rt)?;
+    let mut shelf = Folder::new(rt);
     let mut input = StdIn::new(rt.stdin());
     let Ok(mut output) = StdOut::new(rt.alloc(), rt.stdout()) else {
         return Err(Status::Memory);
     };
-    Ok(panto_run(rt.alloc(), &words, &mut input, &mut output, notes))
+    Ok(panto_run(
+        rt.alloc(),
+        &words,
+        &mut shelf,
+        &mut input,
+        &mut output,
+        notes,
+    ))
 }
 
 fn main(rt: HostRuntime) -> ExitCode {

@@ -1,5 +1,4 @@
-mod BuiltLaws
-mod PrintedText
-mod ReplyLemmas
-mod RunLemmas
-mod SessionLemmas
+pub mod Puts
+pub mod Refusals
+pub mod Sessions
+pub mod Endings

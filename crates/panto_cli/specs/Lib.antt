@@ -1,5 +1,7 @@
-pub mod Echo
-pub mod Reply
-pub mod Session
-pub mod Progress
+-- What the clauses of this crate cite. Run.antt says what a run leaves.
+pub mod Status
+pub mod Books
+pub mod Outcomes
+pub mod Notes
 pub mod Run
+pub mod Ends

@@ -1,52 +1,107 @@
--- A run of the program: its words, its statuses, its notes.
-use Rattle.std.specs.Prelude.{◌≡◌, ℕ, ◌^◌, ◌≤◌, ◌⊎◌, List, [], ◌∷◌, length, map, Option, Some, codes, string_bytes}
-use Rattle.std.specs.Io.KnownBytes.{Appends}
-use Rattle.std.specs.declared.alloc.Global.{Global}
-use Rattle.std.specs.Prelude.{String}
-use Rattle.pan_io.specs.Faults.{Rose}
+-- What a run of the program leaves, by its words and its status.
+use Rattle.std.specs.Prelude.{◌≡◌, ◌≤◌, ◌^◌, ◌⊎◌, ℕ, List, [], ◌++◌, length, Option, Some, None, codes, decimal}
+use Rattle.std.specs.Io.KnownBytes.{Appends, Keeps}
+use Rattle.term_syntax.specs.Lex.{Text}
+use Rattle.pan_io.specs.Books.{NamedBytes}
 use Rattle.pan_io.specs.Put.{AppendsPrefix}
-use Rattle.panto_cli.specs.Session.{Session}
-use Rattle.panto_cli.specs.declared.session.End.{End}
-use Rattle.panto_cli.specs.declared.session.End.TheVariants as ending
+use Rattle.command_line.specs.Form.{Command, run, serve, check, demo}
+use Rattle.command_set.specs.Values.{value}
+use Rattle.command_set.specs.declared.values.NoState.{NoState}
+use Rattle.state_tree.specs.TreeModel.{TreeModel}
+use Rattle.state_tree.specs.Server.{IsLegal}
+use Rattle.session_server.specs.Input.{requests_of_input}
+use Rattle.session_server.specs.Session.{Session}
+use Rattle.session_server.specs.declared.run.End.{End}
+use Rattle.panto_cli.specs.Books.{Items, Accepts, Refuses, IsTold}
+use Rattle.panto_cli.specs.Status.{status_of}
 use Rattle.panto_cli.specs.declared.status.Status.{Status}
-use Rattle.panto_cli.specs.declared.status.Status.TheVariants.{Done, Usage, ReadFault, WriteFault, Memory, Long}
+use Rattle.panto_cli.specs.declared.status.Status.TheVariants.{Done, Usage, WriteFault, BookRefused, OpenFault, Worn, Memory}
 
--- the words of the one form: `run`
-abbrev pub AreRunWords : List (String Global) → Type 0
-AreRunWords words = map string_bytes words ≡ codes "run" ∷ []
+-- the words are of a form that the program serves
+abbrev pub IsServed : Option Command → Type 0
+IsServed None = ⊥
+IsServed (Some (run book entries workers)) = Unit {0}
+IsServed (Some (serve listen book entries workers sessions)) = ⊥
+IsServed (Some (check file)) = Unit {0}
+IsServed (Some (demo seed count)) = ⊥
 
-abbrev pub code_of : Status → ℕ
-code_of Done = 0
-code_of Usage = 2
-code_of ReadFault = 3
-code_of WriteFault = 4
-code_of Memory = 9
-code_of Long = 10
+-- the words are those of a session
+abbrev pub IsRun : Option Command → Type 0
+IsRun None = ⊥
+IsRun (Some (run book entries workers)) = Unit {0}
+IsRun (Some (serve listen book entries workers sessions)) = ⊥
+IsRun (Some (check file)) = ⊥
+IsRun (Some (demo seed count)) = ⊥
 
--- the line on standard error
-abbrev pub note_of : Status → List ℕ
-note_of Done = []
-note_of Usage = codes "usage: panto run\n"
-note_of ReadFault = codes "panto: read fault\n"
-note_of WriteFault = codes "panto: write fault\n"
-note_of Memory = codes "panto: out of memory\n"
-note_of Long = codes "panto: input too long\n"
+-- a tree over a book, before its first entry
+abbrev pub opened : Items → ℕ → TreeModel Items
+opened items entries = record { book = items; entries = entries; journal = [] }
 
-abbrev pub status_of : End → Status
-status_of ending.Done = Done
-status_of ending.ReadFault = ReadFault
-status_of ending.WriteFault = WriteFault
-status_of ending.Memory = Memory
-status_of ending.Long = Long
+-- A session over the input answered its requests, as pass 0 of a tree over the book, and ended as the status names. Session says which
+-- requests were entered, and that the output has their replies by the one-thread server. The history that it leaves is legal over the book.
+pub record Answered (items : Items) (entries : ℕ) (input left out out' : Option (List ℕ)) (status : Status) : Type 0 where
+  pub end : End
+  pub named : status ≡ status_of end
+  pub tree : TreeModel Items
+  pub session : Session {S = NoState} value input left (opened items entries) tree out out' end
+  pub legal : IsLegal {S = NoState} value items tree.journal
 
--- the notes took the line, or their count of faults rose and they took a prefix of it
-abbrev pub Noted : Option (List ℕ) → Option (List ℕ) → ℕ → ℕ → List ℕ → Type 0
-Noted notes notes' faults faults' line = Appends notes notes' line ⊎ (Rose faults faults' × AppendsPrefix notes notes' line)
+-- a session over the book that the words name
+abbrev pub Serves : Option (List NamedBytes) → Option Text → ℕ → Option (List ℕ) → Option (List ℕ) → Option (List ℕ) → Option (List ℕ) → Status → Type 0
+Serves books file entries input left out out' status = (items : Items) × Accepts books file items × Answered items entries input left out out' status
 
--- The run is explained by a session with this status: its output is what that session leaves.
-abbrev pub IsSessionOf : Option (List ℕ) → Option (List ℕ) → Option (List ℕ) → Option (List ℕ) → Status → Type 0
-IsSessionOf input left out out' status = (end : End) × (status ≡ status_of end) × Session input left out out' end
+-- what `run` leaves
+abbrev pub Runs : Option (List NamedBytes) → Option Text → ℕ → Option (List ℕ) → Option (List ℕ) → Option (List ℕ) → Option (List ℕ) → Status → Type 0
+Runs books file entries input left out out' Usage = ⊥
+Runs books file entries input left out out' Worn = ⊥
+Runs books file entries input left out out' OpenFault = Keeps out out'
+Runs books file entries input left out out' BookRefused = Keeps out out' × ((object : List ℕ) × Refuses books file object)
+-- memory ran out before the session, or in it
+Runs books file entries input left out out' Memory = Keeps out out' ⊎ Serves books file entries input left out out' Memory
+Runs books file entries input left out out' status = Serves books file entries input left out out' status
 
--- Nothing but want of memory stands in the way: no count rose, and the input is within its limit.
-abbrev pub Completes : Option (List ℕ) → Type 0 → Type 0 → Status → Type 0
-Completes input read_rose write_rose status = (bytes : List ℕ) → input ≡ Some bytes → length bytes ≤ 2 ^ 40 → ¬ read_rose → ¬ write_rose → (status ≡ Done) ⊎ (status ≡ Memory)
+-- the line that `check` prints for so many items
+abbrev pub checked_line : ℕ → List ℕ
+checked_line count = codes "checked " ++ (decimal count ++ codes "\n")
+
+-- what `check` leaves
+abbrev pub Checks : Option (List NamedBytes) → Text → Option (List ℕ) → Option (List ℕ) → Status → Type 0
+Checks books file out out' Done = (items : Items) × Accepts books (Some file) items × Appends out out' (checked_line (length items))
+Checks books file out out' WriteFault = (items : Items) × Accepts books (Some file) items × AppendsPrefix out out' (checked_line (length items))
+Checks books file out out' BookRefused = Keeps out out' × ((object : List ℕ) × Refuses books (Some file) object)
+Checks books file out out' OpenFault = Keeps out out'
+Checks books file out out' Memory = Keeps out out'
+Checks books file out out' status = ⊥
+
+-- words of no form that is served leave nothing
+abbrev pub LeavesNothing : Option (List ℕ) → Option (List ℕ) → Status → Type 0
+LeavesNothing out out' status = Keeps out out' × ((status ≡ Usage) ⊎ (status ≡ Memory))
+
+-- What the words leave. Memory may also run out while the words are read.
+abbrev pub Leaves : Option (List NamedBytes) → Option Command → Option (List ℕ) → Option (List ℕ) → Option (List ℕ) → Option (List ℕ) → Status → Type 0
+Leaves books None input left out out' status = LeavesNothing out out' status
+Leaves books (Some (run book entries workers)) input left out out' status = Runs books book entries input left out out' status
+Leaves books (Some (serve listen book entries workers sessions)) input left out out' status = LeavesNothing out out' status
+Leaves books (Some (check file)) input left out out' status = Checks books file out out' status
+Leaves books (Some (demo seed count)) input left out out' status = LeavesNothing out out' status
+
+-- the run came to its end, or memory ran out
+abbrev pub Completed : Status → Type 0
+Completed status = (status ≡ Done) ⊎ (status ≡ Memory)
+
+-- Nothing but want of memory stands in the way of `run`: the book is accepted, no count rose, the input is within its limit, and the
+-- journal has room for every request.
+abbrev pub CompletesRun : Option (List NamedBytes) → Option Text → ℕ → Option (List ℕ) → Type 0 → Status → Type 0
+CompletesRun books file entries input rose status = (items : Items) (bytes : List ℕ) → IsTold books file → Accepts books file items → input ≡ Some bytes
+    → length bytes ≤ 2 ^ 40 → length (requests_of_input bytes) ≤ entries → ¬ rose → Completed status
+
+-- nor of `check`
+abbrev pub CompletesCheck : Option (List NamedBytes) → Text → Type 0 → Status → Type 0
+CompletesCheck books file rose status = (items : Items) → IsTold books (Some file) → Accepts books (Some file) items → ¬ rose → Completed status
+
+abbrev pub Completes : Option (List NamedBytes) → Option Command → Option (List ℕ) → Type 0 → Status → Type 0
+Completes books None input rose status = Unit {0}
+Completes books (Some (run book entries workers)) input rose status = CompletesRun books book entries input rose status
+Completes books (Some (serve listen book entries workers sessions)) input rose status = Unit {0}
+Completes books (Some (check file)) input rose status = CompletesCheck books file rose status
+Completes books (Some (demo seed count)) input rose status = Unit {0}

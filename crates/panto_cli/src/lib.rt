@@ -1,15 +1,16 @@
-//! The top call of panto: words, input and output in, a status out. The program over it is a few lines.
+//! The top call of panto: words, a shelf of books, input and output in, a status out. The program
+//! over it is a few lines.
 #![tactic(auto)]
 
-mod answer;
-mod built;
-mod echo;
+mod book;
+mod check;
+mod notes;
+mod pieces;
 mod run;
-mod session;
 mod status;
-mod worked;
 
-pub use run::{panto_run, write_note};
+pub use notes::write_note;
+pub use run::panto_run;
 pub use status::Status;
 
 #[cfg(test)]

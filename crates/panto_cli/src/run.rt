@@ -1,94 +1,191 @@
-//! The top call: the words, the session, the note.
+//! The top call: the words, the book, the session, the note.
 
-ghost use Rattle.std.specs.Prelude.{◌≡◌, ◌↔◌, ◌≤◌, IsTrue, codes, string_bytes, is_some};
+ghost use Rattle.std.specs.Prelude.{◌≡◌, ◌≤◌, ◌⊎◌, ℕ, List, Option, Some, map, option_map, string_bytes, is_some};
+ghost use Rattle.std.specs.Io.KnownBytes.{Keeps};
+ghost use Rattle.pan_io.specs.Books.{NamedBytes};
 ghost use Rattle.pan_io.specs.Faults.{Rose};
-ghost use Rattle.panto_cli.specs.Run.{AreRunWords, Noted, IsSessionOf, Completes, note_of};
+ghost use Rattle.command_line.specs.Form.{Command, form_of, run};
+ghost use Rattle.command_line.specs.Given.{Text};
+ghost use Rattle.command_line.specs.Seen.{seen};
+ghost use Rattle.panto_cli.specs.Books.{IsOpenFault};
+ghost use Rattle.panto_cli.specs.Ends.{Ends};
+ghost use Rattle.panto_cli.specs.Notes.{Noted, IsNote, file_of, entries_of};
+ghost use Rattle.panto_cli.specs.Outcomes.{status_in, line_of, outcome_of};
+ghost use Rattle.panto_cli.specs.Run.{Answered, Leaves, Completes, IsServed, IsRun};
 
-use crate::session::run_session;
+use crate::book::open_book;
+use crate::check::{check_book, outcome_without};
+use crate::notes::{Outcome, write_outcome};
 use crate::status::{Status, status_of};
-use pan_io::{Sink, Source, put_all};
+use command_line::{Form, read_words};
+use command_set::{PlainEnvironment, Program};
+use pan_io::{Shelf, Sink, Source};
+use session_server::{End, run_session};
+use state_tree::Tree;
 use std::alloc::Global;
 
-fn is_word_run(word: &String) -> bool
-    ensures { IsTrue result ↔ (string_bytes word.now ≡ codes "run") }
+/// How a run ended whose session ended so.
+fn ended(end: End) -> Outcome
+    ensures { result ≡ outcome_of end }
 {
-    word.as_bytes() == b"run".as_slice()
-}
-
-/// Whether the words are of the form `run`.
-fn is_run(words: &[String]) -> bool
-    ensures { IsTrue result ↔ AreRunWords words.now }
-{
-    match words {
-        [word] => is_word_run(word),
-        _ => false,
+    match end {
+        End::Full { entries } => Outcome::Full(entries),
+        _ => Outcome::Plain(status_of(end)),
     }
 }
 
-/// The line that standard error gets, with its end.
-fn note_of(status: Status) -> &'static str
-    ensures { result.now ≡ note_of status }
+/// Answers the requests of the input over a book.
+fn serve_book<S: Source, K: Sink>(
+    alloc: Global,
+    book: PlainEnvironment,
+    entries: u32,
+    input: &mut S,
+    output: &mut K,
+) -> Outcome
+    ensures answered { ((status_in result ≡ Status.Memory) × Keeps (K.taken output.old) (K.taken output.new))
+        ⊎ Answered book entries (S.left input.old) (S.left input.new) (K.taken output.old) (K.taken output.new) (status_in result) }
+    ensures note { (books : Option (List NamedBytes)) (file : Option Text) → IsNote books file entries (status_in result) (line_of result) }
+    ensures read { status_in result ≡ Status.ReadFault → Rose (S.faults input.old) (S.faults input.new) }
+    ensures write { status_in result ≡ Status.WriteFault → Rose (K.faults output.old) (K.faults output.new) }
+    ensures tells_in { is_some (S.left input.new) ≡ is_some (S.left input.old) }
+    ensures tells_out { is_some (K.taken output.new) ≡ is_some (K.taken output.old) }
+    ensures later_in { S.faults input.old ≤ S.faults input.new }
+    ensures later_out { K.faults output.old ≤ K.faults output.new }
 {
-    match status {
-        Status::Done => "",
-        Status::Usage => "usage: panto run\n",
-        Status::ReadFault => "panto: read fault\n",
-        Status::WriteFault => "panto: write fault\n",
-        Status::Memory => "panto: out of memory\n",
-        Status::Long => "panto: input too long\n",
+    let Ok(mut tree) = Tree::open(alloc, book, entries) else {
+        return Outcome::Plain(Status::Memory);
+    };
+    let end = run_session(alloc, &Program, &mut tree, input, output);
+    // The length tells that the entries are a legal history.
+    let _length = tree.length();
+    ended(end)
+}
+
+/// Opens the book and answers the requests of the input.
+fn serve_input<H: Shelf, S: Source, K: Sink>(
+    alloc: Global,
+    shelf: &mut H,
+    file: Option<&str>,
+    entries: u32,
+    input: &mut S,
+    output: &mut K,
+) -> Outcome
+    ensures ends { (workers : ℕ) → Ends (H.books shelf.old) (Some (run (option_map (λ s. s.now) file.entry) entries workers))
+        (S.left input.old) (S.left input.new) (K.taken output.old) (K.taken output.new)
+        (record { before = H.faults shelf.old; after = H.faults shelf.new }) (record { before = S.faults input.old; after = S.faults input.new })
+        (record { before = K.faults output.old; after = K.faults output.new }) result }
+    ensures books { H.books shelf.new ≡ H.books shelf.old }
+    ensures tells_in { is_some (S.left input.new) ≡ is_some (S.left input.old) }
+    ensures tells_out { is_some (K.taken output.new) ≡ is_some (K.taken output.old) }
+    ensures later_shelf { H.faults shelf.old ≤ H.faults shelf.new }
+    ensures later_in { S.faults input.old ≤ S.faults input.new }
+    ensures later_out { K.faults output.old ≤ K.faults output.new }
+{
+    match open_book(alloc, shelf, file) {
+        Ok(book) => serve_book(alloc, book, entries, input, output),
+        Err(fault) => outcome_without(fault),
     }
 }
 
-/// Writes the note line of a status. A fault of the notes changes nothing else.
-pub fn write_note<N: Sink>(notes: &mut N, status: Status)
-    ensures noted { Noted (N.taken notes.old) (N.taken notes.new) (N.faults notes.old) (N.faults notes.new) (note_of status) }
-    ensures tells { is_some (N.taken notes.new) ≡ is_some (N.taken notes.old) }
-    ensures later { N.faults notes.old ≤ N.faults notes.new }
+/// What the words of a form ask for.
+fn run_form<H: Shelf, S: Source, K: Sink>(
+    alloc: Global,
+    form: Form,
+    shelf: &mut H,
+    input: &mut S,
+    output: &mut K,
+) -> Outcome
+    ensures ends { Ends (H.books shelf.old) (Some (seen form.entry)) (S.left input.old) (S.left input.new) (K.taken output.old) (K.taken output.new)
+        (record { before = H.faults shelf.old; after = H.faults shelf.new }) (record { before = S.faults input.old; after = S.faults input.new })
+        (record { before = K.faults output.old; after = K.faults output.new }) result }
+    ensures unread { ¬ IsRun (Some (seen form.entry)) → input.new ≡ input.old }
+    ensures untouched { ¬ IsServed (Some (seen form.entry)) → (output.new ≡ output.old) × (shelf.new ≡ shelf.old) }
+    ensures books { H.books shelf.new ≡ H.books shelf.old }
+    ensures tells_in { is_some (S.left input.new) ≡ is_some (S.left input.old) }
+    ensures tells_out { is_some (K.taken output.new) ≡ is_some (K.taken output.old) }
+    ensures later_shelf { H.faults shelf.old ≤ H.faults shelf.new }
+    ensures later_in { S.faults input.old ≤ S.faults input.new }
+    ensures later_out { K.faults output.old ≤ K.faults output.new }
 {
-    let _ = put_all(notes, note_of(status).as_bytes());
+    match form {
+        Form::Run { book, entries, .. } => serve_input(alloc, shelf, book, entries, input, output),
+        Form::Check { file } => check_book(alloc, shelf, file, output),
+        Form::Serve { .. } => Outcome::Plain(Status::Usage),
+        Form::Demo { .. } => Outcome::Plain(Status::Usage),
+    }
 }
 
-/// Runs panto on its words: `run` answers each line of the input with one line of the output.
-///
-/// Where the input tells its bytes, the output is, however they are cut into reads, what the session that the status names leaves: at
-/// `Done` the concatenation of the replies to all lines. Notes get the line of the status. `Usage` comes exactly where the words are
-/// not the one word `run`; then nothing is read from the input or written to the output. `ReadFault` and `WriteFault` come only
-/// where the count of faults of the input or the output rose, `Long` only where the input has more than 1,099,511,627,776 bytes, and
-/// `Done` only where it hasn't. Only want of memory (`Memory`) is free.
-pub fn panto_run<S: Source, K: Sink, N: Sink>(
+/// What the words ask for.
+fn run_words<H: Shelf, S: Source, K: Sink>(
     alloc: Global,
     words: &[String],
+    shelf: &mut H,
+    input: &mut S,
+    output: &mut K,
+) -> Outcome
+    ensures ends { Ends (H.books shelf.old) (form_of (map string_bytes words.now)) (S.left input.old) (S.left input.new) (K.taken output.old) (K.taken output.new)
+        (record { before = H.faults shelf.old; after = H.faults shelf.new }) (record { before = S.faults input.old; after = S.faults input.new })
+        (record { before = K.faults output.old; after = K.faults output.new }) result }
+    ensures unread { ¬ IsRun (form_of (map string_bytes words.now)) → input.new ≡ input.old }
+    ensures untouched { ¬ IsServed (form_of (map string_bytes words.now)) → (output.new ≡ output.old) × (shelf.new ≡ shelf.old) }
+    ensures books { H.books shelf.new ≡ H.books shelf.old }
+    ensures tells_in { is_some (S.left input.new) ≡ is_some (S.left input.old) }
+    ensures tells_out { is_some (K.taken output.new) ≡ is_some (K.taken output.old) }
+    ensures later_shelf { H.faults shelf.old ≤ H.faults shelf.new }
+    ensures later_in { S.faults input.old ≤ S.faults input.new }
+    ensures later_out { K.faults output.old ≤ K.faults output.new }
+{
+    match read_words(alloc, words) {
+        Ok(Some(form)) => run_form(alloc, form, shelf, input, output),
+        Ok(None) => Outcome::Plain(Status::Usage),
+        Err(_) => Outcome::Plain(Status::Memory),
+    }
+}
+
+/// Runs panto on its words.
+///
+/// `run [--book FILE] [--entries N]` answers the requests of the input, one line each, over the book
+/// that the shelf has under FILE; `check FILE` prints how many items a book has. Where the input and
+/// the shelf tell their bytes, the output is, however they are cut into reads, what `specs/Run.antt`
+/// says by the status: the replies of the one-thread server to the requests of the lines, in order.
+/// It always returns.
+pub fn panto_run<H: Shelf, S: Source, K: Sink, N: Sink>(
+    alloc: Global,
+    words: &[String],
+    shelf: &mut H,
     input: &mut S,
     output: &mut K,
     notes: &mut N,
 ) -> Status
-    // The words decide `Usage`; then nothing is read from the input or written to the output.
-    ensures usage { (result ≡ Status.Usage) ↔ (¬ AreRunWords words.now) }
-    ensures unread { result ≡ Status.Usage → input.new ≡ input.old }
-    ensures unwritten { result ≡ Status.Usage → output.new ≡ output.old }
-    // On the words of `run` the output is the replies of a session over the input, with the end that the status names.
-    ensures session { AreRunWords words.now → IsSessionOf (S.left input.old) (S.left input.new) (K.taken output.old) (K.taken output.new) result }
+    // What the words leave, by the status.
+    ensures leaves { Leaves (H.books shelf.old) (form_of (map string_bytes words.now)) (S.left input.old) (S.left input.new) (K.taken output.old) (K.taken output.new) result }
+    // `Usage` comes exactly where the words are of no form that is served, unless memory runs out.
+    ensures usage { result ≡ Status.Usage → ¬ IsServed (form_of (map string_bytes words.now)) }
+    ensures refused { ¬ IsServed (form_of (map string_bytes words.now)) → (result ≡ Status.Usage) ⊎ (result ≡ Status.Memory) }
+    // Only a session reads the input, and nothing else is written, or a book opened, for words of no form that is served.
+    ensures unread { ¬ IsRun (form_of (map string_bytes words.now)) → input.new ≡ input.old }
+    ensures untouched { ¬ IsServed (form_of (map string_bytes words.now)) → (output.new ≡ output.old) × (shelf.new ≡ shelf.old) }
     // The causes of faults.
+    ensures opened { result ≡ Status.OpenFault → IsOpenFault (H.books shelf.old) (file_of (form_of (map string_bytes words.now))) (H.faults shelf.old) (H.faults shelf.new) }
     ensures read { result ≡ Status.ReadFault → Rose (S.faults input.old) (S.faults input.new) }
     ensures write { result ≡ Status.WriteFault → Rose (K.faults output.old) (K.faults output.new) }
-    // No call changes whether an end tells its bytes, and no count falls.
+    // No call changes what is told, and no count falls.
+    ensures books { H.books shelf.new ≡ H.books shelf.old }
     ensures tells_in { is_some (S.left input.new) ≡ is_some (S.left input.old) }
     ensures tells_out { is_some (K.taken output.new) ≡ is_some (K.taken output.old) }
     ensures tells_notes { is_some (N.taken notes.new) ≡ is_some (N.taken notes.old) }
+    ensures later_shelf { H.faults shelf.old ≤ H.faults shelf.new }
     ensures later_in { S.faults input.old ≤ S.faults input.new }
     ensures later_out { K.faults output.old ≤ K.faults output.new }
     ensures later_notes { N.faults notes.old ≤ N.faults notes.new }
     // The note of the status.
-    ensures noted { Noted (N.taken notes.old) (N.taken notes.new) (N.faults notes.old) (N.faults notes.new) (note_of result) }
-    // Completeness: where nothing fails and the input is within its limit, only want of memory keeps the run from its end.
-    ensures complete { AreRunWords words.now → Completes (S.left input.old)
-        (Rose (S.faults input.old) (S.faults input.new)) (Rose (K.faults output.old) (K.faults output.new)) result }
+    ensures noted { (line : List ℕ) × IsNote (H.books shelf.old) (file_of (form_of (map string_bytes words.now))) (entries_of (form_of (map string_bytes words.now))) result line
+        × Noted (N.taken notes.old) (N.taken notes.new) (N.faults notes.old) (N.faults notes.new) line }
+    // Where nothing fails, only want of memory keeps a run from its end.
+    ensures complete { Completes (H.books shelf.old) (form_of (map string_bytes words.now)) (S.left input.old)
+        (Rose (H.faults shelf.old) (H.faults shelf.new) ⊎ Rose (S.faults input.old) (S.faults input.new) ⊎ Rose (K.faults output.old) (K.faults output.new)) result }
 {
-    if !is_run(words) {
-        write_note(notes, Status::Usage);
-        return Status::Usage;
-    }
-    let status = status_of(run_session(alloc, input, output));
-    write_note(notes, status);
-    status
+    let outcome = run_words(alloc, words, shelf, input, output);
+    write_outcome(notes, &outcome);
+    outcome.status()
 }

@@ -1,22 +1,30 @@
 //! How a run of the program ended.
 
 ghost use Rattle.std.specs.Prelude.{◌≡◌};
-ghost use Rattle.panto_cli.specs.Run.{code_of, status_of};
+ghost use Rattle.panto_cli.specs.Status.{code_of, status_of};
 
-use crate::session::End;
+use session_server::End;
 
 /// How a run of the program ended.
 #[derive(Debug, Clone, Copy, PartialEq, Eq, Drop)]
 pub enum Status {
-    /// The input was read to its end and every reply was written.
+    /// The input was read to its end and everything to be printed was written.
     Done,
-    /// The words are of no form of the command line.
+    /// The words are of no form that is served.
     Usage,
     /// The input failed.
     ReadFault,
     /// The output failed.
     WriteFault,
-    /// Memory was wanted; the output has the replies of the lines before.
+    /// The book has more than 4,194,304 bytes, or it is refused.
+    BookRefused,
+    /// The journal holds all its entries, and a further request was to be entered.
+    Full,
+    /// The shelf failed.
+    OpenFault,
+    /// All turns of the turn lock were drawn. No run of one session ends so.
+    Worn,
+    /// Memory was wanted.
     Memory,
     /// The input has more than 1,099,511,627,776 bytes.
     Long,
@@ -32,6 +40,10 @@ impl Status {
             Status::Usage => 2,
             Status::ReadFault => 3,
             Status::WriteFault => 4,
+            Status::BookRefused => 5,
+            Status::Full => 6,
+            Status::OpenFault => 7,
+            Status::Worn => 8,
             Status::Memory => 9,
             Status::Long => 10,
         }
@@ -46,7 +58,9 @@ pub fn status_of(end: End) -> Status
         End::Done => Status::Done,
         End::ReadFault => Status::ReadFault,
         End::WriteFault => Status::WriteFault,
+        End::Full { .. } => Status::Full,
+        End::Worn { .. } => Status::Worn,
+        End::Long { .. } => Status::Long,
         End::Memory => Status::Memory,
-        End::Long => Status::Long,
     }
 }

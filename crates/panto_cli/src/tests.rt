@@ -1,17 +1,24 @@
-//! The worked lines, and faults at each call and byte.
+//! Worked runs, and faults at each call and byte.
 
 ghost use Rattle.std.specs.Prelude.{None};
 ghost use Rattle.std.proofs.Common.{rules};
 
 use super::*;
-use pan_io::{Failed, MemorySink, MemorySource, Sink, Source};
+use pan_io::{Book, Failed, MemoryShelf, MemorySink, MemorySource, Sink, Source};
 use std::alloc::{AllocError, Global};
 use std::cell::Cell;
 use std::test::Fail;
 
-const ECHO: &[u8] = b"expr.echo {\"expr\":\"fun (A : *) => fun (x : A) => x\"}";
+const ECHO: &str = "expr.echo {\"expr\":\"fun (A : *) => fun (x : A) => x\"}";
 
-const ECHOED: &[u8] = b"{\"expr\":\"fun (%0 : *) => fun (%1 : %0) => %1\",\"seq\":0}\n";
+const ECHOED: &str =
+    "{\"expr\":\"fun (%0 : *) => fun (%1 : %0) => %1\",\"seq\":0,\"type\":\"(%0 : *) -> %0 -> %0\"}\n";
+
+const USAGE: &str = "usage: panto run [--book FILE] [--entries N]\n       panto check FILE\n";
+
+const BOOK: &str =
+    "prim N : *; prim a : N(); prim b : N(); prim c : N(); prim le (x : N()) (y : N()) : *; \
+    prim trans (x : N()) (y : N()) (z : N()) (p : le(x, y)) (q : le(y, z)) : le(x, z); prim ac : le(a(), c()); prim cb : le(c(), b());";
 
 /// What a run left.
 #[derive(Drop)]
@@ -21,17 +28,30 @@ struct Ran {
     notes: Vec<u8>,
 }
 
-/// A run over a source, with an output that takes so many bytes.
+/// The words of a line.
+fn words_of(alloc: Global, line: &str) -> Result<Vec<String>, AllocError> {
+    let mut words = Vec::new(alloc);
+    for word in line.split(' ') {
+        words.push(String::from_str(alloc, word)?)?;
+    }
+    Ok(words)
+}
+
+/// A run over a source, with a shelf whose book `F` has this text, and an output that takes so many bytes.
 fn run_over(
     alloc: Global,
-    word: &str,
+    line: &str,
+    book: &str,
     source: &mut MemorySource,
     room: usize,
 ) -> Result<Ran, AllocError> {
-    let words = vec![in alloc; String::from_str(alloc, word)?]?;
+    let words = words_of(alloc, line)?;
+    let text = Vec::from_slice(alloc, book.as_bytes())?;
+    let book = Book::new(String::from_str(alloc, "F")?, text);
+    let mut shelf = MemoryShelf::new(vec![in alloc; book]?, Vec::new(alloc));
     let mut output = MemorySink::new(alloc, 3, room, Vec::new(alloc));
-    let mut notes = MemorySink::new(alloc, 0, 100, Vec::new(alloc));
-    let status = panto_run(alloc, &words, source, &mut output, &mut notes);
+    let mut notes = MemorySink::new(alloc, 0, 1000, Vec::new(alloc));
+    let status = panto_run(alloc, &words, &mut shelf, source, &mut output, &mut notes);
     Ok(Ran {
         status,
         output: Vec::from_slice(alloc, output.bytes())?,
@@ -50,63 +70,99 @@ fn source(
     Ok(MemorySource::new(bytes, vec![in alloc; piece]?, failing))
 }
 
+/// Whether a run that reads one byte a call leaves this output, status code and note.
+fn shows(
+    alloc: Global,
+    line: &str,
+    book: &str,
+    input: &[u8],
+    wanted: (&str, u8, &str),
+) -> Result<bool, AllocError> {
+    let mut source = source(alloc, input, 1, Vec::new(alloc))?;
+    let left = run_over(alloc, line, book, &mut source, 10_000)?;
+    Ok(
+        left.output.as_slice() == wanted.0.as_bytes()
+            && left.status.code() == wanted.1
+            && left.notes.as_slice() == wanted.2.as_bytes(),
+    )
+}
+
 #[test]
-fn worked_lines_one_byte_a_call(rt: HostRuntime) -> Result<(), Fail> {
-    let alloc = rt.alloc();
-    let rows: [(&[u8], &[u8]); 6] = [
-        (ECHO, ECHOED),
+fn worked_sessions(rt: HostRuntime) -> Result<(), Fail> {
+    let rows: [(&[u8], &str); 6] = [
+        (ECHO.as_bytes(), ECHOED),
         (
-            b"expr.echo {\"expr\":\"x\"}\n",
-            b"{\"error\":\"notYet\",\"seq\":0}\n",
+            b"expr.echo {\"expr\":\"fun (A : *) => fun (x : A) => x\",\"fuel\":4}\n",
+            "{\"error\":\"fuel\",\"seq\":0}\n",
         ),
-        (b"", b""),
-        (b"   \n", b""),
-        (b"\r\n", b""),
         (
-            b"\xff\x00\n \t\nexpr.echo {\"expr\":\"*\"}\r\n",
-            b"{\"error\":\"notYet\",\"seq\":0}\n{\"expr\":\"*\",\"seq\":1}\n",
+            b"expr.echo {\"expr\":\"(A -> \"}\n",
+            "{\"at\":6,\"error\":\"syntax\",\"seq\":0}\n",
+        ),
+        (b"", ""),
+        (b"   \n\r\n", ""),
+        (
+            b"\xff\x00\n \t\nexpr.echo {\"after\":1.5,\"expr\":\"*\"}\r\n",
+            "{\"error\":\"command\",\"seq\":0}\n{\"error\":\"field\",\"field\":\"after\",\"seq\":1}\n",
         ),
     ];
     for (input, wanted) in rows {
-        let left = run_over(
-            alloc,
-            "run",
-            &mut source(alloc, input, 1, Vec::new(alloc))?,
-            1000,
-        )?;
-        assert_eq!(rt; left.output.as_slice(), wanted);
-        assert_eq!(rt; left.notes.as_slice(), b"".as_slice());
-        assert_eq!(rt; left.status.code(), 0);
+        assert!(rt; shows(rt.alloc(), "run", "", input, (wanted, 0, ""))?);
     }
     Ok(())
 }
 
 #[test]
-fn other_words_are_refused(rt: HostRuntime) -> Result<(), Fail> {
+fn worked_books(rt: HostRuntime) -> Result<(), Fail> {
     let alloc = rt.alloc();
-    let left = run_over(
-        alloc,
+    let input =
+        b"env.add {\"text\":\"prim app (F : N() -> *) (x : N()) : F x;\"}\nenv.catalog {\"envId\":0}\nenv.inspect {\"envId\":1,\"name\":\"app\"}\nenv.catalog {\"envId\":2}\n";
+    let replies =
+        "{\"envId\":1,\"seq\":0}\n{\"names\":[\"N\",\"a\",\"b\",\"c\",\"le\",\"trans\",\"ac\",\"cb\"],\"seq\":1}\n{\"kind\":\"prim\",\"params\":[{\"name\":\"F\",\"type\":\"N() -> *\"},{\"name\":\"x\",\"type\":\"N()\"}],\"seq\":2,\"type\":\"F x\"}\n{\"error\":\"unknownEnv\",\"id\":2,\"seq\":3}\n";
+    assert!(rt; shows(alloc, "run --book F", BOOK, input, (replies, 0, ""))?);
+    let two = "def falsum := (A : *) -> A : *; def not (A : *) := A -> falsum() : *;";
+    assert!(rt; shows(alloc, "check F", two, b"", ("checked 2\n", 0, ""))?);
+    let twice = "prim a : *; prim a : *;";
+    let taken = "panto: book: {\"error\":\"nameTaken\",\"item\":1,\"name\":\"a\"}\n";
+    assert!(rt; shows(alloc, "check F", twice, b"", ("", 5, taken))?);
+    assert!(rt; shows(alloc, "run --book=F", twice, b"nope\n", ("", 5, taken))?);
+    let missing = ("", 7, "panto: cannot open\n");
+    assert!(rt; shows(alloc, "check G", "", b"", missing)?);
+    assert!(rt; shows(alloc, "run --book G", "", b"nope\n", missing)?);
+    Ok(())
+}
+
+#[test]
+fn worked_words(rt: HostRuntime) -> Result<(), Fail> {
+    let alloc = rt.alloc();
+    let first = "{\"error\":\"command\",\"seq\":0}\n";
+    let full = (first, 6, "panto: full 1\n");
+    assert!(rt; shows(alloc, "run --entries 1", "", b"nope\nnope\n", full)?);
+    let lines: [&str; 6] = [
+        "run --entries 0",
+        "run --workers 65",
         "serve",
-        &mut source(alloc, ECHO, 1, Vec::new(alloc))?,
-        1000,
-    )?;
-    assert_eq!(rt; left.output.as_slice(), b"".as_slice());
-    assert_eq!(rt; left.notes.as_slice(), b"usage: panto run\n".as_slice());
-    assert_eq!(rt; left.status.code(), 2);
+        "check",
+        "demo 7 1",
+        "",
+    ];
+    for line in lines {
+        assert!(rt; shows(alloc, line, "", b"nope\n", ("", 2, USAGE))?);
+    }
     Ok(())
 }
 
 #[test]
 fn input_fails_at_each_call(rt: HostRuntime) -> Result<(), Fail> {
     let alloc = rt.alloc();
-    // The first line ends in the third piece.
-    let input = b"expr.echo {\"expr\":\"*\"}\nstat\n";
-    let both: &[u8] = b"{\"expr\":\"*\",\"seq\":0}\n{\"error\":\"notYet\",\"seq\":1}\n";
-    let rows: [(usize, &[u8]); 4] = [(0, b""), (1, b""), (2, b""), (3, both)];
-    for (call, wanted) in rows {
-        let failing = vec![in alloc; call]?;
-        let left = run_over(alloc, "run", &mut source(alloc, input, 10, failing)?, 1000)?;
-        assert_eq!(rt; left.output.as_slice(), wanted);
+    // The first line ends in the first piece.
+    let input = b"nope {}\nnope\n";
+    let first = "{\"error\":\"command\",\"seq\":0}\n";
+    let both = "{\"error\":\"command\",\"seq\":0}\n{\"error\":\"command\",\"seq\":1}\n";
+    for (call, wanted) in [(0, ""), (1, first), (2, both)] {
+        let mut source = source(alloc, input, 10, vec![in alloc; call]?)?;
+        let left = run_over(alloc, "run", "", &mut source, 1000)?;
+        assert_eq!(rt; left.output.as_slice(), wanted.as_bytes());
         assert_eq!(rt; left.notes.as_slice(), b"panto: read fault\n".as_slice());
         assert_eq!(rt; left.status.code(), 3);
     }
@@ -117,47 +173,49 @@ fn input_fails_at_each_call(rt: HostRuntime) -> Result<(), Fail> {
 fn output_fails_at_each_byte(rt: HostRuntime) -> Result<(), Fail> {
     let alloc = rt.alloc();
     for room in 0..ECHOED.len() {
-        let left = run_over(
-            alloc,
-            "run",
-            &mut source(alloc, ECHO, 7, Vec::new(alloc))?,
-            room,
-        )?;
-        assert_eq!(rt; left.output.as_slice(), &ECHOED[..room]);
+        let mut source = source(alloc, ECHO.as_bytes(), 7, Vec::new(alloc))?;
+        let left = run_over(alloc, "run", "", &mut source, room)?;
+        assert_eq!(rt; left.output.as_slice(), &ECHOED.as_bytes()[..room]);
         assert_eq!(rt; left.notes.as_slice(), b"panto: write fault\n".as_slice());
         assert_eq!(rt; left.status.code(), 4);
     }
+    let mut none = source(alloc, b"", 1, Vec::new(alloc))?;
+    let left = run_over(alloc, "check F", "prim a : *;", &mut none, 9)?;
+    assert_eq!(rt; left.output.as_slice(), b"checked 1".as_slice());
+    assert_eq!(rt; left.status.code(), 4);
     Ok(())
 }
 
-/// A line that echoes a star inside this many blanks.
+/// A line that echoes a star inside this many blanks, and another one.
 fn wide_line(alloc: Global, blanks: usize) -> Result<Vec<u8>, AllocError> {
     let mut line = Vec::from_slice(alloc, b"expr.echo {\"expr\":\"")?;
     line.extend_from_slice(&vec![in alloc; b' '; blanks]?)?;
-    line.extend_from_slice(b"*\"}\nexpr.echo {\"expr\":\"*\"}\n")?;
+    line.extend_from_slice(b"*\"}\nnope\n")?;
     Ok(line)
 }
 
 #[test]
 fn longest_line_and_one_byte_more(rt: HostRuntime) -> Result<(), Fail> {
     let alloc = rt.alloc();
-    let next: &[u8] = b"{\"expr\":\"*\",\"seq\":1}\n";
     let rows: [(usize, &[u8]); 3] = [
-        (65_514, b"{\"expr\":\"*\",\"seq\":0}\n"),
-        (65_515, b"{\"error\":\"notYet\",\"seq\":0}\n"),
-        (1_000_000, b"{\"error\":\"notYet\",\"seq\":0}\n"),
+        (
+            65_514,
+            b"{\"expr\":\"*\",\"seq\":0,\"type\":\"#\"}\n{\"error\":\"command\",\"seq\":1}\n",
+        ),
+        (
+            65_515,
+            b"{\"error\":\"lineTooLong\",\"length\":65537,\"seq\":0}\n{\"error\":\"command\",\"seq\":1}\n",
+        ),
+        (
+            1_000_000,
+            b"{\"error\":\"lineTooLong\",\"length\":1000022,\"seq\":0}\n{\"error\":\"command\",\"seq\":1}\n",
+        ),
     ];
-    for (blanks, first) in rows {
+    for (blanks, wanted) in rows {
         let bytes = wide_line(alloc, blanks)?;
-        let left = run_over(
-            alloc,
-            "run",
-            &mut source(alloc, &bytes, 5000, Vec::new(alloc))?,
-            1000,
-        )?;
-        let mut wanted = Vec::from_slice(alloc, first)?;
-        wanted.extend_from_slice(next)?;
-        assert_eq!(rt; left.output.as_slice(), wanted.as_slice());
+        let mut source = source(alloc, &bytes, 5000, Vec::new(alloc))?;
+        let left = run_over(alloc, "run", "", &mut source, 1000)?;
+        assert_eq!(rt; left.output.as_slice(), wanted);
         assert_eq!(rt; left.status.code(), 0);
     }
     Ok(())
@@ -215,14 +273,22 @@ impl<'a> Source for Waiting<'a> {
 fn each_reply_is_flushed_before_the_next_read(rt: HostRuntime) -> Result<(), Fail> {
     let alloc = rt.alloc();
     let flushes = Cell::new(0);
-    let words = vec![in alloc; String::from_str(alloc, "run")?]?;
+    let words = words_of(alloc, "run")?;
+    let mut shelf = MemoryShelf::new(Vec::new(alloc), Vec::new(alloc));
     let mut input = Waiting {
         flushes: &flushes,
         given: 0,
     };
     let mut output = Counting { flushes: &flushes };
     let mut notes = MemorySink::new(alloc, 0, 100, Vec::new(alloc));
-    let status = panto_run(alloc, &words, &mut input, &mut output, &mut notes);
+    let status = panto_run(
+        alloc,
+        &words,
+        &mut shelf,
+        &mut input,
+        &mut output,
+        &mut notes,
+    );
     assert_eq!(rt; status.code(), 0);
     assert_eq!(rt; flushes.get(), 5);
     Ok(())
