@@ -1,0 +1,3 @@
+pub mod Reducts
+pub mod Agreement
+pub mod Laws

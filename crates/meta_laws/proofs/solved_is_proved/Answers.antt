@@ -1,0 +1,5 @@
+use Rattle.meta_laws.proofs.Solved.{solved_is_proved}
+use Rattle.meta_laws.proofs.solved_is_proved.Goals as goal
+
+pub returns : goal.returns
+returns c = solved_is_proved

@@ -1,0 +1,6 @@
+pub mod Places
+pub mod Terms
+pub mod Sound
+pub mod Complete
+pub mod Refusals
+pub mod Texts
