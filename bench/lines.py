@@ -1,11 +1,11 @@
 #!/usr/bin/env python3
 """Echo lines per second and peak memory of `panto run`, side by side with `sed -u` on the same input.
 
-Usage: bench/lines.py [LINES]      (default 1,000,000; the program has to be built: run `./panto run </dev/null` once)
+Usage: bench/lines.py [LINES]      (default 1,000,000, at most 1,048,576; the program has to be built: run `./panto run </dev/null` once)
 
 Both programs read the same file and write to a pipe that is drained. `sed -u s/x/y/` writes each line as soon as it is read, as panto
-does. One run of each, printed as lines per second and the peak resident size in KiB. The aim for panto: at least 200,000 lines per second on
-one core, and memory that doesn't grow with the input (shown by a second run over a tenth of the lines).
+does; panto reads the term, infers its type and prints both. One run of each, printed as lines per second and the peak resident size in
+KiB, and a second run over a tenth of the lines: the journal keeps each line's request, so memory grows by what a request takes.
 """
 import os, subprocess, sys, tempfile, time
 
@@ -41,7 +41,7 @@ def main():
             path = os.path.join(folder, "lines")
             with open(path, "wb") as f:
                 f.write(LINE * n)
-            for name, words in (("panto run", [panto, "run"]), ("sed -u", ["sed", "-u", "s/x/y/"])):
+            for name, words in (("panto run", [panto, "run", "--entries", str(max(n, 1))]), ("sed -u", ["sed", "-u", "s/x/y/"])):
                 seconds, peak, lines, status = run(words, path)
                 assert status == 0 and lines == n, (name, status, lines)
                 print(f"{name:10} {n:9} lines  {n / seconds:11,.0f} lines/s  peak {peak:7,} KiB")
