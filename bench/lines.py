@@ -9,16 +9,9 @@ KiB, and a second run over a tenth of the lines: the journal keeps each line's r
 """
 import os, subprocess, sys, tempfile, time
 
-TOP = os.path.dirname(os.path.dirname(os.path.abspath(__file__)))
-LINE = b'expr.echo {"expr":"fun (A : *) => fun (x : A) => x"}\n'
+from measure import PANTO, peak_of
 
-def peak_of(pid):
-    """The peak resident size of a running process in KiB, counted since its program began; 0 where it has ended."""
-    try:
-        with open(f"/proc/{pid}/status") as status:
-            return next((int(line.split()[1]) for line in status if line.startswith("VmHWM")), 0)
-    except OSError:
-        return 0
+LINE = b'expr.echo {"expr":"fun (A : *) => fun (x : A) => x"}\n'
 
 def run(words, path):
     """Seconds and peak KiB of one run over the file, with its output counted and dropped."""
@@ -35,13 +28,12 @@ def run(words, path):
 
 def main():
     count = int(sys.argv[1]) if len(sys.argv) > 1 else 1_000_000
-    panto = os.path.join(TOP, "crates", "panto", "out", "panto")
     with tempfile.TemporaryDirectory() as folder:
         for n in (count, max(count // 10, 1)):
             path = os.path.join(folder, "lines")
             with open(path, "wb") as f:
                 f.write(LINE * n)
-            for name, words in (("panto run", [panto, "run", "--entries", str(max(n, 1))]), ("sed -u", ["sed", "-u", "s/x/y/"])):
+            for name, words in (("panto run", [PANTO, "run", "--entries", str(max(n, 1))]), ("sed -u", ["sed", "-u", "s/x/y/"])):
                 seconds, peak, lines, status = run(words, path)
                 assert status == 0 and lines == n, (name, status, lines)
                 print(f"{name:10} {n:9} lines  {n / seconds:11,.0f} lines/s  peak {peak:7,} KiB")

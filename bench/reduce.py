@@ -10,8 +10,8 @@ linear in the units. At the end spines of 30,000 applications are answered, whos
 """
 import json, os, subprocess, sys, tempfile, time
 
-TOP = os.path.dirname(os.path.dirname(os.path.abspath(__file__)))
-PANTO = os.path.join(TOP, "crates", "panto", "out", "panto")
+from measure import PANTO, peak_of
+
 MOST = 10_000_000
 BOOK = [
     "def N := (A : *) -> (A -> A) -> A -> A : *;",
@@ -32,14 +32,6 @@ def book(greatest):
         items.append(f"def sum{k + 1} := add(sum{k}(), sum{k}()) : N();")
         items.append(f"def product{k + 1} := mul(two(), product{k}()) : N();")
     return "\n".join(items)
-
-def peak_of(pid):
-    """The peak resident size of a running process in KiB; 0 where it has ended."""
-    try:
-        with open(f"/proc/{pid}/status") as status:
-            return next((int(line.split()[1]) for line in status if line.startswith("VmHWM")), 0)
-    except OSError:
-        return 0
 
 def run(path, lines):
     """The replies to some lines, the seconds from the first reply to the last one, and the peak in KiB."""
