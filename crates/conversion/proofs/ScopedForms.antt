@@ -5,7 +5,8 @@ use Rattle.std.proofs.lemmas.Option.{same_Some}
 use Rattle.std.specs.Prelude.{nat_eq}
 use Rattle.ld_trees.specs.Term.{Head, Term, App, Lam, Con, Terms, count, same}
 use Rattle.ld_rules.specs.Environment.{Env, Item, item_of}
-use Rattle.ld_rules.specs.Scoping.{AllScoped, AllKnown}
+use Rattle.ld_trees.specs.Scoping.{AllScoped}
+use Rattle.ld_rules.specs.Scoping.{AllKnown}
 use Rattle.ld_rules.specs.ScopedItems.{IsScopedAt, IsScopedItem, HasScopedItems}
 use Rattle.ld_rules.proofs.ScopedItems.{one_put_in, all_put_in}
 use Rattle.conversion.specs.Runs.{Refusal, OutOfFuel, Run, pure, choose}

@@ -4,7 +4,8 @@ use Rattle.std.proofs.lemmas.Bool.{eqb-true}
 use Rattle.ld_trees.specs.Term.{Sort, star, square, Head, Term, Srt, Var, App, Lam, Pi, Con, Terms, none, ◌▹◌, Star, Square, count, same, depth, depth_all}
 use Rattle.ld_trees.specs.Substitution.{weaken, subst_all}
 use Rattle.ld_rules.specs.Environment.{Ctx, type_at, Item, Env, item_of}
-use Rattle.ld_rules.specs.Scoping.{AllScoped, AllKnown, ContextScoped, IsScoped}
+use Rattle.ld_trees.specs.Scoping.{AllScoped}
+use Rattle.ld_rules.specs.Scoping.{AllKnown, ContextScoped, IsScoped}
 use Rattle.ld_rules.specs.ScopedItems.{IsScopedAt, IsScopedItem, HasScopedItems, AreScoped}
 use Rattle.ld_rules.proofs.ScopedItems.{one_put_in, all_put_in}
 use Rattle.ld_rules.proofs.ScopedTerms.{weaken_scoped}

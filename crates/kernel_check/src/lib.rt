@@ -7,6 +7,7 @@
 mod examples;
 mod fault;
 mod inference;
+mod instances;
 mod kernel;
 mod laws;
 mod signature;

@@ -6,7 +6,7 @@ use Rattle.ld_trees.proofs.SubstitutionLaws.{subst_var}
 use Rattle.ld_rules.specs.Environment.{Env, Ctx, Item, item_of}
 use Rattle.ld_rules.specs.Reduction.{Equal, reflexive, transitive}
 use Rattle.ld_rules.specs.Derivation.{Derives, conv, sort, Fits, weak, argument, var, no_argument, form, appl, abst, def, def_prim, inst}
-use Rattle.ld_rules.specs.Scoping.{Scoped}
+use Rattle.ld_trees.specs.Scoping.{Scoped}
 use Rattle.ld_rules.proofs.ScopedTerms.{renames_are, rename_of_arguments}
 use Rattle.ld_rules.proofs.ScopedJudgements.{EnvironmentScoped, in_scope, all_in_scope}
 use Rattle.ld_rules.proofs.SubstitutionLemma.{equal_weaken, substitution_all, extends_itself, legal, into_weak, domain, equal_subst, found_below, refines_itself}

@@ -6,7 +6,7 @@ use Rattle.ld_trees.specs.Term.{◌▹◌, Term, Sort, Srt, Var, App, Lam, Pi, H
 use Rattle.ld_trees.specs.Substitution.{subst_all, subst, rename, lift_name, lift, instantiate, renames, substs}
 use Rattle.ld_trees.proofs.SubstitutionLaws.{subst_of_rename, subst_instantiate, lift_of_name}
 use Rattle.ld_rules.specs.Environment.{Env, Item, item_of}
-use Rattle.ld_rules.specs.Scoping.{Scoped}
+use Rattle.ld_trees.specs.Scoping.{Scoped}
 use Rattle.ld_rules.proofs.ScopedTerms.{rename_of_arguments, renames_count, subst_of_arguments, substs_count}
 use Rattle.ld_rules.proofs.ScopedJudgements.{EnvironmentScoped}
 

@@ -6,7 +6,7 @@ use Rattle.ld_trees.specs.Substitution.{lift_name, rename, renames, lift, subst,
 use Rattle.ld_rules.specs.Environment.{Ctx, Env, Item, item_of}
 use Rattle.ld_rules.specs.Reduction.{Step, beta, delta, in_function, in_argument, in_lam_type, in_lam_body, in_domain, in_codomain, in_arguments, Steps, in_last, in_earlier, Equal, by_step, reflexive, symmetric, transitive, EqualAll, no_terms, one_more}
 use Rattle.ld_rules.specs.Derivation.{Derives, sort, var, weak, form, appl, abst, conv, def, def_prim, inst, Fits, no_argument, argument}
-use Rattle.ld_rules.specs.Scoping.{Scoped}
+use Rattle.ld_trees.specs.Scoping.{Scoped}
 use Rattle.ld_rules.specs.Expansion.{Bodies, BodiesScoped, expand, expand_all, expanded, Stays, Goes, Expands}
 use Rattle.ld_rules.proofs.ScopedTerms.{subst_of_arguments, substs_count, renames_count, rename_of_arguments}
 use Rattle.ld_rules.proofs.ScopedJudgements.{EnvironmentScoped, in_scope, all_in_scope}

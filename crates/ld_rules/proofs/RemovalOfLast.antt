@@ -7,7 +7,8 @@ use Rattle.ld_trees.proofs.Equality.{same_head_is, and_both, and_right}
 use Rattle.ld_rules.specs.Environment.{Ctx, Env, Item, item_of, found_at}
 use Rattle.ld_rules.specs.Derivation.{Derives}
 use Rattle.ld_rules.specs.Legality.{IsLegalEnvironment, MayBeAdded}
-use Rattle.ld_rules.specs.Scoping.{Scoped, IsKnown, Known, AllKnown}
+use Rattle.ld_trees.specs.Scoping.{Scoped}
+use Rattle.ld_rules.specs.Scoping.{IsKnown, Known, AllKnown}
 use Rattle.ld_rules.specs.Expansion.{Bodies, BodiesScoped, expand, expand_all, expanded, body_of, Stays, Goes, Expands}
 use Rattle.ld_rules.proofs.ScopedJudgements.{in_scope}
 use Rattle.ld_rules.proofs.Environments.{newest, item_legal, item_body}

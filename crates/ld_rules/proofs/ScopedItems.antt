@@ -5,7 +5,8 @@ use Rattle.ld_trees.specs.Term.{Head, Term, Srt, Var, App, Lam, Pi, Con, Terms, 
 use Rattle.ld_trees.specs.Substitution.{lift, subst, substs, instantiate, subst_all}
 use Rattle.ld_rules.specs.Environment.{Ctx, Env, Item}
 use Rattle.ld_rules.specs.Legality.{IsLegal, IsLegalEnvironment, IsValid}
-use Rattle.ld_rules.specs.Scoping.{AllScoped, Known, AllKnown, IsKnown, IsScoped}
+use Rattle.ld_trees.specs.Scoping.{AllScoped}
+use Rattle.ld_rules.specs.Scoping.{Known, AllKnown, IsKnown, IsScoped}
 use Rattle.ld_rules.specs.ScopedItems.{IsScopedAt, HasScopedItems, AreScoped, EachHead, EachHeadOfAll, IsNameIn}
 use Rattle.ld_rules.proofs.ScopedTerms.{arguments_scoped, last_argument_scoped, substs_count}
 use Rattle.ld_rules.proofs.KnownConstants.{known_rename, judgements_are_scoped}

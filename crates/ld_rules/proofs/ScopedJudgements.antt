@@ -4,7 +4,8 @@ use Rattle.std.proofs.lemmas.Option.{same_Some}
 use Rattle.ld_trees.specs.Term.{Head, Term, Terms, count, same_head}
 use Rattle.ld_rules.specs.Environment.{Ctx, Env, Item, item_of, found_at}
 use Rattle.ld_rules.specs.Derivation.{Derives, sort, var, weak, form, appl, abst, conv, def, def_prim, inst, Fits, no_argument, argument}
-use Rattle.ld_rules.specs.Scoping.{Scoped, AllScoped, ContextScoped}
+use Rattle.ld_trees.specs.Scoping.{Scoped, AllScoped}
+use Rattle.ld_rules.specs.Scoping.{ContextScoped}
 use Rattle.ld_rules.proofs.ScopedTerms.{weaken_scoped, arguments_scoped, last_argument_scoped}
 
 -- an item's type and body have the variables of its parameters

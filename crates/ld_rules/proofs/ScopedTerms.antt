@@ -3,7 +3,7 @@ use Rattle.std.proofs.Common.{◌≡◌, ℕ, zero, suc, ◌<◌, refl, sym, ap,
 use Rattle.ld_trees.specs.Term.{Term, Srt, Var, App, Lam, Pi, Con, Terms, none, ◌▹◌, count}
 use Rattle.ld_trees.specs.Substitution.{lift_name, rename, renames, weaken, lift, subst, substs, instantiate, subst_all}
 use Rattle.ld_trees.proofs.SubstitutionLaws.{subst_subst, subst_of_rename}
-use Rattle.ld_rules.specs.Scoping.{Scoped, AllScoped}
+use Rattle.ld_trees.specs.Scoping.{Scoped, AllScoped}
 
 lift_name_below : (n m : ℕ) (r : ℕ → ℕ) → ((i : ℕ) → i < n → r i < m) → (i : ℕ) → i < suc n → lift_name r i < suc m
 lift_name_below n m r h zero l = omega arith

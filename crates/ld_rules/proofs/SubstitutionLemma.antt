@@ -7,7 +7,8 @@ use Rattle.ld_trees.proofs.Equality.{same_head_is}
 use Rattle.ld_rules.specs.Environment.{Ctx, Env, Item, item_of, found_at}
 use Rattle.ld_rules.specs.Reduction.{Step, beta, delta, in_function, in_argument, in_lam_type, in_lam_body, in_domain, in_codomain, in_arguments, Steps, in_last, in_earlier, Equal, by_step, reflexive, symmetric, transitive}
 use Rattle.ld_rules.specs.Derivation.{Derives, sort, var, weak, form, appl, abst, conv, def, def_prim, inst, Fits, no_argument, argument}
-use Rattle.ld_rules.specs.Scoping.{Scoped, ContextScoped}
+use Rattle.ld_trees.specs.Scoping.{Scoped}
+use Rattle.ld_rules.specs.Scoping.{ContextScoped}
 use Rattle.ld_rules.specs.Extension.{Refines, Extends}
 use Rattle.ld_rules.proofs.ScopedTerms.{subst_of_arguments, substs_count}
 use Rattle.ld_rules.proofs.ScopedJudgements.{EnvironmentScoped, in_scope, all_in_scope}

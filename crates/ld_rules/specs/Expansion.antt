@@ -4,7 +4,7 @@ use Rattle.ld_trees.specs.Term.{Head, Term, Srt, Var, App, Lam, Pi, Con, Terms, 
 use Rattle.ld_trees.specs.Substitution.{subst_all}
 use Rattle.ld_rules.specs.Environment.{Env, Item, item_of}
 use Rattle.ld_rules.specs.Derivation.{Derives}
-use Rattle.ld_rules.specs.Scoping.{Scoped}
+use Rattle.ld_trees.specs.Scoping.{Scoped}
 
 -- which bodies stand for constants, each by the constant's name and its number of arguments
 abbrev pub Bodies : Type 0

@@ -2,7 +2,8 @@
 use Rattle.std.specs.Prelude.{◌≡◌, ℕ, Contains, Some}
 use Rattle.ld_trees.specs.Term.{Head, Term, Srt, Var, App, Lam, Pi, Con, Terms, none, ◌▹◌}
 use Rattle.ld_rules.specs.Environment.{Ctx, Env, Item, item_of}
-use Rattle.ld_rules.specs.Scoping.{Scoped, ContextScoped, Known, AllKnown, IsScoped}
+use Rattle.ld_trees.specs.Scoping.{Scoped}
+use Rattle.ld_rules.specs.Scoping.{ContextScoped, Known, AllKnown, IsScoped}
 
 -- a term is scoped in an environment and a context of so many entries
 abbrev pub IsScopedAt : Env → ℕ → Term → Type 0

@@ -20,9 +20,13 @@ reserved_words = codes "fun" ∷ codes "def" ∷ codes "prim" ∷ []
 abbrev pub is_reserved : List ℕ → Bool
 is_reserved name = list_any (bytes_eq name) reserved_words
 
+-- how many bytes a name of the texts has at most
+abbrev pub longest_name : ℕ
+longest_name = 64
+
 -- a name of the texts: a word of at most 64 bytes that isn't reserved
 abbrev pub is_text_name : List ℕ → Bool
-is_text_name name = is_word name && nat_le (length name) 64 && not (is_reserved name)
+is_text_name name = is_word name && nat_le (length name) longest_name && not (is_reserved name)
 
 abbrev pub IsTextName : List ℕ → Type 0
 IsTextName name = IsTrue (is_text_name name)

@@ -19,10 +19,10 @@ use Rattle.kernel_check.specs.Steps.{along, applied_type, pair_trees}
 use Rattle.kernel_check.proofs.Applications.{along_last, along_shows, trees_kept, pairs_held}
 use Rattle.kernel_check.proofs.Signatures.{item_instance, item_missing, signature_read}
 use Rattle.kernel_check.proofs.Calls.{all_shows, residual, shows_more, shows_after, answers_after, answers_after_two, sort_shows, sort_gave, refused_shows, after, entered, lam_is, no_product, checked_is, unchecked, checked, instance_is, instance_refused, read_kept, read_more, read_count, count_of}
-use Rattle.kernel_check.proofs.inference.+inferring.Goals as goal
+use Rattle.kernel_check.proofs.+inferring.Goals as goal
 
-pub sort_of-returns-in_err-found-clause-value : goal.sort_of-returns-in_err-found-clause-value
-sort_of-returns-in_err-found-clause-value g t c Δ Γ x r e =
+pub inference::sort_of-returns-in_err-found-clause-value : goal.inference::sort_of-returns-in_err-found-clause-value
+inference::sort_of-returns-in_err-found-clause-value g t c Δ Γ x r e =
     let h = g.T.Terms.holds in
     let m = g.T.Terms.means in
     let s0 = c.args.terms.now in
@@ -30,8 +30,8 @@ sort_of-returns-in_err-found-clause-value g t c Δ Γ x r e =
     residual (h s1) (m s1) _ _ _ c.from_residual.result c.in_err-found.field-0.0 c.from_residual.ensures.1
     (shows_more (h s1) (m s1) _ _ _ _ (shows_more (h s1) (m s1) _ _ _ _ (c.in_err-found.ensures.value Δ Γ x r e)))
 
-pub sort_of-returns-clause-value : goal.sort_of-returns-clause-value
-sort_of-returns-clause-value g t c Δ Γ x r e =
+pub inference::sort_of-returns-clause-value : goal.inference::sort_of-returns-clause-value
+inference::sort_of-returns-clause-value g t c Δ Γ x r e =
     let h = g.T.Terms.holds in
     let m = g.T.Terms.means in
     let s0 = c.args.terms.now in
@@ -43,8 +43,8 @@ sort_of-returns-clause-value g t c Δ Γ x r e =
     answers_after_two (h s2) (m s2) (m s2) _ _ _ _ _ _ _ (c.in_ok-found.ensures.value Δ Γ x r e)
     (c.sort_in.ensures.value Δ Γ x (m s1 c.in_ok-found.found) r1.env d1 ((k1 c.args.h c.requires.term).1 ∙ e) refl)
 
-pub infer_under-returns-in_err-found-clause-value : goal.infer_under-returns-in_err-found-clause-value
-infer_under-returns-in_err-found-clause-value g t c Δ Γ A M r p b =
+pub inference::infer_under-returns-in_err-found-clause-value : goal.inference::infer_under-returns-in_err-found-clause-value
+inference::infer_under-returns-in_err-found-clause-value g t c Δ Γ A M r p b =
     let h = g.T.Terms.holds in
     let m = g.T.Terms.means in
     let s0 = c.args.terms.now in
@@ -53,16 +53,16 @@ infer_under-returns-in_err-found-clause-value g t c Δ Γ A M r p b =
     residual (h s1) (m s1) _ _ _ c.from_residual-in_err-found.result c.in_err-found.field-0.0 c.from_residual-in_err-found.ensures.1
     (c.in_err-found.ensures.value Δ (Γ ▹ A) M q b)
 
-pub infer_under-returns-clause-value : goal.infer_under-returns-clause-value
-infer_under-returns-clause-value g t c Δ Γ A M r p b =
+pub inference::infer_under-returns-clause-value : goal.inference::infer_under-returns-clause-value
+inference::infer_under-returns-clause-value g t c Δ Γ A M r p b =
     let h = g.T.Terms.holds in
     let m = g.T.Terms.means in
     let s0 = c.args.terms.now in
     let q = read_more (m s0) c.args.types.now.items c.push.new.self.items c.args.domain A c.in_ok-push.ensures.items p r in
     c.in_ok-found.ensures.value Δ (Γ ▹ A) M q b
 
-pub infer_abstraction-returns-in_err-sort_of-clause-value : goal.infer_abstraction-returns-in_err-sort_of-clause-value
-infer_abstraction-returns-in_err-sort_of-clause-value g t c Δ Γ A M r p b =
+pub inference::infer_abstraction-returns-in_err-sort_of-clause-value : goal.inference::infer_abstraction-returns-in_err-sort_of-clause-value
+inference::infer_abstraction-returns-in_err-sort_of-clause-value g t c Δ Γ A M r p b =
     let h = g.T.Terms.holds in
     let m = g.T.Terms.means in
     let s0 = c.args.terms.now in
@@ -70,8 +70,8 @@ infer_abstraction-returns-in_err-sort_of-clause-value g t c Δ Γ A M r p b =
     residual (h s1) (m s1) _ _ _ c.from_residual.result c.in_err-sort_of.field-0.0 c.from_residual.ensures.1
     (shows_more (h s1) (m s1) (infer_sort Δ Γ A c.args.fuel.now) _ _ _ (sort_shows (h s1) (m s1) _ _ _ (c.in_err-sort_of.ensures.value Δ Γ A r p)))
 
-pub infer_abstraction-returns-in_err-found-clause-value : goal.infer_abstraction-returns-in_err-found-clause-value
-infer_abstraction-returns-in_err-found-clause-value g t c Δ Γ A M r p b =
+pub inference::infer_abstraction-returns-in_err-found-clause-value : goal.inference::infer_abstraction-returns-in_err-found-clause-value
+inference::infer_abstraction-returns-in_err-found-clause-value g t c Δ Γ A M r p b =
     let h = g.T.Terms.holds in
     let m = g.T.Terms.means in
     let s0 = c.args.terms.now in
@@ -85,8 +85,8 @@ infer_abstraction-returns-in_err-found-clause-value g t c Δ Γ A M r p b =
     residual (h s2) (m s2) _ _ _ c.from_residual-in_err-found.result c.in_err-found.field-0.0 c.from_residual-in_err-found.ensures.1
     (shows_after (h s2) (m s2) _ _ _ _ _ _ w.1 (shows_more (h s2) (m s2) _ _ _ _ (c.in_err-found.ensures.value Δ Γ A M r1 p1 b1)))
 
-pub infer_abstraction-returns-then-is_square-clause-value : goal.infer_abstraction-returns-then-is_square-clause-value
-infer_abstraction-returns-then-is_square-clause-value g t c Δ Γ A M r p b =
+pub inference::infer_abstraction-returns-then-is_square-clause-value : goal.inference::infer_abstraction-returns-then-is_square-clause-value
+inference::infer_abstraction-returns-then-is_square-clause-value g t c Δ Γ A M r p b =
     let h = g.T.Terms.holds in
     let m = g.T.Terms.means in
     let s0 = c.args.terms.now in
@@ -105,8 +105,8 @@ infer_abstraction-returns-then-is_square-clause-value g t c Δ Γ A M r p b =
     let d : suc (count Γ) ≡ c.len.result + 1 = omega (arith, read_count (m s2) c.infer_under.new.types.items r2, c.len.ensures) in
     (after (infer_sort Δ Γ A c.args.fuel.now) _ _ _ w.1 ∙ after _ _ _ _ v ∙ ap (λ T. lam_type Γ A T n) z ∙ ap₂ (λ k T. Refused (NotType k T) n) d (sym z), c.in_ok-found.ensures.held)
 
-pub infer_abstraction-returns-clause-value : goal.infer_abstraction-returns-clause-value
-infer_abstraction-returns-clause-value g t c Δ Γ A M r p b =
+pub inference::infer_abstraction-returns-clause-value : goal.inference::infer_abstraction-returns-clause-value
+inference::infer_abstraction-returns-clause-value g t c Δ Γ A M r p b =
     let h = g.T.Terms.holds in
     let m = g.T.Terms.means in
     let s0 = c.args.terms.now in
@@ -125,8 +125,8 @@ infer_abstraction-returns-clause-value g t c Δ Γ A M r p b =
     after (infer_sort Δ Γ A c.args.fuel.now) _ _ _ w.1 ∙ after _ _ _ _ v ∙ lam_is Γ A (m s2 c.in_ok-found.found) n no
     ∙ ap (λ D. Gave (Pi D (m s2 c.in_ok-found.found)) n) (sym ((k2 c.args.domain c.requires.domain).1 ∙ p)) ∙ ap (λ T. Gave T n) (sym c.in_ok-make.ensures.tree)
 
-pub infer_product-returns-in_err-sort_of-clause-value : goal.infer_product-returns-in_err-sort_of-clause-value
-infer_product-returns-in_err-sort_of-clause-value g t c Δ Γ A M r p b =
+pub inference::infer_product-returns-in_err-sort_of-clause-value : goal.inference::infer_product-returns-in_err-sort_of-clause-value
+inference::infer_product-returns-in_err-sort_of-clause-value g t c Δ Γ A M r p b =
     let h = g.T.Terms.holds in
     let m = g.T.Terms.means in
     let s0 = c.args.terms.now in
@@ -134,8 +134,8 @@ infer_product-returns-in_err-sort_of-clause-value g t c Δ Γ A M r p b =
     residual (h s1) (m s1) _ _ _ c.from_residual.result c.in_err-sort_of.field-0.0 c.from_residual.ensures.1
     (shows_more (h s1) (m s1) (infer_sort Δ Γ A c.args.fuel.now) _ _ _ (sort_shows (h s1) (m s1) _ _ _ (c.in_err-sort_of.ensures.value Δ Γ A r p)))
 
-pub infer_product-returns-in_err-found-clause-value : goal.infer_product-returns-in_err-found-clause-value
-infer_product-returns-in_err-found-clause-value g t c Δ Γ A M r p b =
+pub inference::infer_product-returns-in_err-found-clause-value : goal.inference::infer_product-returns-in_err-found-clause-value
+inference::infer_product-returns-in_err-found-clause-value g t c Δ Γ A M r p b =
     let h = g.T.Terms.holds in
     let m = g.T.Terms.means in
     let s0 = c.args.terms.now in
@@ -149,8 +149,8 @@ infer_product-returns-in_err-found-clause-value g t c Δ Γ A M r p b =
     residual (h s2) (m s2) _ _ _ c.from_residual-in_err-found.result c.in_err-found.field-0.0 c.from_residual-in_err-found.ensures.1
     (shows_after (h s2) (m s2) _ _ _ _ _ _ w.1 (shows_more (h s2) (m s2) _ _ _ _ (shows_more (h s2) (m s2) _ _ _ _ (c.in_err-found.ensures.value Δ Γ A M r1 p1 b1))))
 
-pub infer_product-returns-clause-value : goal.infer_product-returns-clause-value
-infer_product-returns-clause-value g t c Δ Γ A M r p b =
+pub inference::infer_product-returns-clause-value : goal.inference::infer_product-returns-clause-value
+inference::infer_product-returns-clause-value g t c Δ Γ A M r p b =
     let h = g.T.Terms.holds in
     let m = g.T.Terms.means in
     let s0 = c.args.terms.now in
@@ -169,8 +169,8 @@ infer_product-returns-clause-value g t c Δ Γ A M r p b =
     answers_after (h s3) (m s3) (m s3) (infer_sort Δ Γ A c.args.fuel.now) _ _ _ _ _ w.1
     (answers_after_two (h s3) (m s3) (m s3) _ _ _ _ _ _ _ v (c.sort_in.ensures.value Δ (Γ ▹ A) M (m s2 c.in_ok-found.found) r2.env d ((k2 c.args.codomain c.requires.codomain).1 ∙ b) refl))
 
-pub product_form-returns-in_err-form-clause-value : goal.product_form-returns-in_err-form-clause-value
-product_form-returns-in_err-form-clause-value g t c Δ Γ F A r p a =
+pub inference::product_form-returns-in_err-form-clause-value : goal.inference::product_form-returns-in_err-form-clause-value
+inference::product_form-returns-in_err-form-clause-value g t c Δ Γ F A r p a =
     let h = g.T.Terms.holds in
     let m = g.T.Terms.means in
     let s0 = c.args.terms.now in
@@ -178,8 +178,8 @@ product_form-returns-in_err-form-clause-value g t c Δ Γ F A r p a =
     residual (h s1) (m s1) _ _ _ c.from_residual.result c.in_err-form.field-0.0 c.from_residual.ensures.1
     (shows_more (h s1) (m s1) _ _ _ _ (c.in_err-form.ensures.value Δ A r.env a))
 
-pub product_form-returns-in_err-check_reduct-in-Some-clause-value : goal.product_form-returns-in_err-check_reduct-in-Some-clause-value
-product_form-returns-in_err-check_reduct-in-Some-clause-value g t c Δ Γ F A r p a =
+pub inference::product_form-returns-in_err-check_reduct-in-Some-clause-value : goal.inference::product_form-returns-in_err-check_reduct-in-Some-clause-value
+inference::product_form-returns-in_err-check_reduct-in-Some-clause-value g t c Δ Γ F A r p a =
     let h = g.T.Terms.holds in
     let m = g.T.Terms.means in
     let s0 = c.args.terms.now in
@@ -196,8 +196,8 @@ product_form-returns-in_err-check_reduct-in-Some-clause-value g t c Δ Γ F A r 
     residual (h s2) (m s2) _ _ _ c.from_residual-in_err-check_reduct-in-Some.result c.in_err-check_reduct-in-Some.field-0.0 c.from_residual-in_err-check_reduct-in-Some.ensures.1
     (shows_after (h s2) (m s2) _ _ _ _ _ _ e (transport (λ o. Shows (h s2) (m s2) o c.check_reduct.new.fuel c.in_err-check_reduct-in-Some.field-0.0) (checked_is Δ Γ F A D C c.form_of.new.fuel) (shows_more (h s2) (m s2) _ _ _ _ (c.in_err-check_reduct-in-Some.ensures.value Δ Γ A (Pi D C) r1 a1 form))))
 
-pub product_form-returns-in_ok-check_reduct-in-Some-clause-value : goal.product_form-returns-in_ok-check_reduct-in-Some-clause-value
-product_form-returns-in_ok-check_reduct-in-Some-clause-value g t c Δ Γ F A r p a =
+pub inference::product_form-returns-in_ok-check_reduct-in-Some-clause-value : goal.inference::product_form-returns-in_ok-check_reduct-in-Some-clause-value
+inference::product_form-returns-in_ok-check_reduct-in-Some-clause-value g t c Δ Γ F A r p a =
     let h = g.T.Terms.holds in
     let m = g.T.Terms.means in
     let s0 = c.args.terms.now in
@@ -217,8 +217,8 @@ product_form-returns-in_ok-check_reduct-in-Some-clause-value g t c Δ Γ F A r p
     after _ _ _ _ e ∙ sym (checked_is Δ Γ F A D C c.form_of.new.fuel) ∙ after _ _ _ _ (c.in_ok-check_reduct-in-Some.ensures.value Δ Γ A (Pi D C) r1 a1 form)
     ∙ ap₂ (λ x y. let q : Term × Term = (x, y) in Gave q n) (sym kd) (sym kc)
 
-pub product_form-returns-in-None-clause-value : goal.product_form-returns-in-None-clause-value
-product_form-returns-in-None-clause-value g t c Δ Γ F A r p a =
+pub inference::product_form-returns-in-None-clause-value : goal.inference::product_form-returns-in-None-clause-value
+inference::product_form-returns-in-None-clause-value g t c Δ Γ F A r p a =
     let h = g.T.Terms.holds in
     let m = g.T.Terms.means in
     let s0 = c.args.terms.now in
@@ -232,15 +232,15 @@ product_form-returns-in-None-clause-value g t c Δ Γ F A r p a =
     let ka = k1 c.args.found c.requires.found in
     (after _ _ _ _ e1 ∙ no_product Δ Γ F A (m s1 c.in_ok-form.form) n c.in-None.ensures.parts ∙ ap (λ k. Refused (NotFunction k F A) n) d ∙ ap₂ (λ x y. Refused (NotFunction c.len.result x y) n) (sym (kf.1 ∙ p)) (sym (ka.1 ∙ a)), kf.0, ka.0)
 
-pub check_reduct-returns-then-same-clause-value : goal.check_reduct-returns-then-same-clause-value
-check_reduct-returns-then-same-clause-value g t c Δ Γ F P r p a =
+pub inference::check_reduct-returns-then-same-clause-value : goal.inference::check_reduct-returns-then-same-clause-value
+inference::check_reduct-returns-then-same-clause-value g t c Δ Γ F P r p a =
     let h = g.T.Terms.holds in
     let m = g.T.Terms.means in
     let s0 = c.args.terms.now in
     unchecked Δ Γ F P c.args.fuel.now (sym p ∙ c.if-same.ensures.0 refl ∙ a)
 
-pub check_reduct-returns-in-Ok-clause-value : goal.check_reduct-returns-in-Ok-clause-value
-check_reduct-returns-in-Ok-clause-value g t c Δ Γ F P r p a =
+pub inference::check_reduct-returns-in-Ok-clause-value : goal.inference::check_reduct-returns-in-Ok-clause-value
+inference::check_reduct-returns-in-Ok-clause-value g t c Δ Γ F P r p a =
     let h = g.T.Terms.holds in
     let m = g.T.Terms.means in
     let s0 = c.args.terms.now in
@@ -249,8 +249,8 @@ check_reduct-returns-in-Ok-clause-value g t c Δ Γ F P r p a =
     let w = sort_gave (infer_sort Δ Γ P c.args.fuel.now) _ _ (c.in-Ok.ensures.value Δ Γ P r a) in
     checked Δ Γ F P c.args.fuel.now no ∙ ap (λ o. go_on (other_refusal (ReductIllTyped (count Γ) F P) o) (λ _. pure (tt {0}))) w.1
 
-pub check_reduct-returns-in-Err-clause-value : goal.check_reduct-returns-in-Err-clause-value
-check_reduct-returns-in-Err-clause-value g t c Δ Γ F P r p a =
+pub inference::check_reduct-returns-in-Err-clause-value : goal.inference::check_reduct-returns-in-Err-clause-value
+inference::check_reduct-returns-in-Err-clause-value g t c Δ Γ F P r p a =
     let h = g.T.Terms.holds in
     let m = g.T.Terms.means in
     let s0 = c.args.terms.now in
@@ -267,8 +267,8 @@ check_reduct-returns-in-Err-clause-value g t c Δ Γ F P r p a =
     (transport (λ x. Shows (h s1) (m s1) x n (refused_as (fault.ReductIllTyped c.len.result c.args.found c.args.form) e)) (sym eq)
     (shows_more (h s1) (m s1) _ _ n _ (refused_shows (h s1) (m s1) o n e c.len.result c.args.found c.args.form kf.0 kp.0 (sort_shows (h s1) (m s1) o n e (c.in-Err.ensures.value Δ Γ P r a)))))
 
-pub infer_in-returns-in-Square-clause-value : goal.infer_in-returns-in-Square-clause-value
-infer_in-returns-in-Square-clause-value g t c Δ Γ x r e =
+pub inference::infer_in-returns-in-Square-clause-value : goal.inference::infer_in-returns-in-Square-clause-value
+inference::infer_in-returns-in-Square-clause-value g t c Δ Γ x r e =
     let h = g.T.Terms.holds in
     let m = g.T.Terms.means in
     let s0 = c.args.terms.now in
@@ -279,8 +279,8 @@ infer_in-returns-in-Square-clause-value g t c Δ Γ x r e =
     let d : count Γ ≡ c.len.result = omega (arith, read_count (m s0) c.args.types.now.items r, c.len.ensures) in
     (entered Δ Γ x Square c.args.fuel.now n pos one (tr ∙ e) ∙ ap (λ k. Refused (NotType k Square) n) d ∙ ap (λ y. Refused (NotType c.len.result y) n) tr, c.requires.term)
 
-pub infer_in-returns-in-Var-clause-value : goal.infer_in-returns-in-Var-clause-value
-infer_in-returns-in-Var-clause-value g t c Δ Γ x r e =
+pub inference::infer_in-returns-in-Var-clause-value : goal.inference::infer_in-returns-in-Var-clause-value
+inference::infer_in-returns-in-Var-clause-value g t c Δ Γ x r e =
     let h = g.T.Terms.holds in
     let m = g.T.Terms.means in
     let s0 = c.args.terms.now in
@@ -291,8 +291,8 @@ infer_in-returns-in-Var-clause-value g t c Δ Γ x r e =
     let s1 = c.entry_type.new.terms in
     transport (λ o. Answers (h s1) (m s1) (m s1) o n c.entry_type.result) (sym (entered Δ Γ x (Var c.in-Var.i) c.args.fuel.now n pos one (tr ∙ e))) (c.entry_type.ensures.value Γ n (let dq : c.deref.result.now ≡ c.args.types.now.items = search rules in ap (λ l. terms_of (map (m s0) l)) dq ∙ r.context) (sym tr))
 
-pub infer_in-returns-in-App-clause-value : goal.infer_in-returns-in-App-clause-value
-infer_in-returns-in-App-clause-value g t c Δ Γ x r e =
+pub inference::infer_in-returns-in-App-clause-value : goal.inference::infer_in-returns-in-App-clause-value
+inference::infer_in-returns-in-App-clause-value g t c Δ Γ x r e =
     let h = g.T.Terms.holds in
     let m = g.T.Terms.means in
     let s0 = c.args.terms.now in
@@ -303,8 +303,8 @@ infer_in-returns-in-App-clause-value g t c Δ Γ x r e =
     let s1 = c.infer_application.new.terms in
     transport (λ o. Answers (h s1) (m s1) (m s1) o c.infer_application.new.fuel c.infer_application.result) (sym (entered Δ Γ x (App (m s0 c.in-App.f) (m s0 c.in-App.a)) c.args.fuel.now n pos one (tr ∙ e))) (c.infer_application.ensures.value Δ Γ (m s0 c.in-App.f) (m s0 c.in-App.a) r refl refl)
 
-pub infer_in-returns-in-Lam-clause-value : goal.infer_in-returns-in-Lam-clause-value
-infer_in-returns-in-Lam-clause-value g t c Δ Γ x r e =
+pub inference::infer_in-returns-in-Lam-clause-value : goal.inference::infer_in-returns-in-Lam-clause-value
+inference::infer_in-returns-in-Lam-clause-value g t c Δ Γ x r e =
     let h = g.T.Terms.holds in
     let m = g.T.Terms.means in
     let s0 = c.args.terms.now in
@@ -315,8 +315,8 @@ infer_in-returns-in-Lam-clause-value g t c Δ Γ x r e =
     let s1 = c.infer_abstraction.new.terms in
     transport (λ o. Answers (h s1) (m s1) (m s1) o c.infer_abstraction.new.fuel c.infer_abstraction.result) (sym (entered Δ Γ x (Lam (m s0 c.in-Lam.a) (m s0 c.in-Lam.m)) c.args.fuel.now n pos one (tr ∙ e))) (c.infer_abstraction.ensures.value Δ Γ (m s0 c.in-Lam.a) (m s0 c.in-Lam.m) r refl refl)
 
-pub infer_in-returns-in-Pi-clause-value : goal.infer_in-returns-in-Pi-clause-value
-infer_in-returns-in-Pi-clause-value g t c Δ Γ x r e =
+pub inference::infer_in-returns-in-Pi-clause-value : goal.inference::infer_in-returns-in-Pi-clause-value
+inference::infer_in-returns-in-Pi-clause-value g t c Δ Γ x r e =
     let h = g.T.Terms.holds in
     let m = g.T.Terms.means in
     let s0 = c.args.terms.now in
@@ -327,8 +327,8 @@ infer_in-returns-in-Pi-clause-value g t c Δ Γ x r e =
     let s1 = c.infer_product.new.terms in
     transport (λ o. Answers (h s1) (m s1) (m s1) o c.infer_product.new.fuel c.infer_product.result) (sym (entered Δ Γ x (Pi (m s0 c.in-Pi.a) (m s0 c.in-Pi.b)) c.args.fuel.now n pos one (tr ∙ e))) (c.infer_product.ensures.value Δ Γ (m s0 c.in-Pi.a) (m s0 c.in-Pi.b) r refl refl)
 
-pub infer_instance-returns-then-args-params-clause-value : goal.infer_instance-returns-then-args-params-clause-value
-infer_instance-returns-then-args-params-clause-value g t c Δ Γ k us ps S r p q u v =
+pub instances::infer_instance-returns-then-args-params-clause-value : goal.instances::infer_instance-returns-then-args-params-clause-value
+instances::infer_instance-returns-then-args-params-clause-value g t c Δ Γ k us ps S r p q u v =
     let h = g.T.Terms.holds in
     let m = g.T.Terms.means in
     let s0 = c.args.terms.now in
@@ -339,8 +339,8 @@ infer_instance-returns-then-args-params-clause-value g t c Δ Γ k us ps S r p q
     let n = c.args.fuel.now in
     (instance_refused Δ Γ k us ps S n no ∙ ap (λ j. Refused (NotType j (Con k us)) n) d ∙ ap (λ y. Refused (NotType c.len.result y) n) (sym p), c.requires.term)
 
-pub infer_instance-returns-in_err-infer_arguments-clause-value : goal.infer_instance-returns-in_err-infer_arguments-clause-value
-infer_instance-returns-in_err-infer_arguments-clause-value g t c Δ Γ k us ps S r p q u v =
+pub instances::infer_instance-returns-in_err-infer_arguments-clause-value : goal.instances::infer_instance-returns-in_err-infer_arguments-clause-value
+instances::infer_instance-returns-in_err-infer_arguments-clause-value g t c Δ Γ k us ps S r p q u v =
     let h = g.T.Terms.holds in
     let m = g.T.Terms.means in
     let s0 = c.args.terms.now in
@@ -352,8 +352,8 @@ infer_instance-returns-in_err-infer_arguments-clause-value g t c Δ Γ k us ps S
     residual (h s1) (m s1) _ _ _ c.from_residual.result c.in_err-infer_arguments.field-0.0 c.from_residual.ensures.1
     (transport (λ o. Shows (h s1) (m s1) o n c.in_err-infer_arguments.field-0.0) (sym (instance_is Δ Γ k us ps S c.args.fuel.now eq)) (shows_more (h s1) (m s1) _ _ _ _ (c.in_err-infer_arguments.ensures.value Δ Γ us ps r q u)))
 
-pub infer_instance-returns-clause-value : goal.infer_instance-returns-clause-value
-infer_instance-returns-clause-value g t c Δ Γ k us ps S r p q u v =
+pub instances::infer_instance-returns-clause-value : goal.instances::infer_instance-returns-clause-value
+instances::infer_instance-returns-clause-value g t c Δ Γ k us ps S r p q u v =
     let h = g.T.Terms.holds in
     let m = g.T.Terms.means in
     let s0 = c.args.terms.now in
@@ -367,8 +367,8 @@ infer_instance-returns-clause-value g t c Δ Γ k us ps S r p q u v =
     let ms = (k1 c.args.ty c.requires.ty).1 ∙ v in
     instance_is Δ Γ k us ps S c.args.fuel.now eq ∙ after _ _ _ _ (c.in_ok-infer_arguments.ensures.value Δ Γ us ps r q u) ∙ ap (λ T. Gave T n) (sym (c.in_ok-subst_all.ensures.tree ∙ ap₂ subst_all ma ms))
 
-pub infer_arguments-returns-in_err-found-clause-value : goal.infer_arguments-returns-in_err-found-clause-value
-infer_arguments-returns-in_err-found-clause-value g t c Δ Γ us ps r q v =
+pub instances::infer_arguments-returns-in_err-found-clause-value : goal.instances::infer_arguments-returns-in_err-found-clause-value
+instances::infer_arguments-returns-in_err-found-clause-value g t c Δ Γ us ps r q v =
     let h = g.T.Terms.holds in
     let m = g.T.Terms.means in
     let s0 = c.args.terms.now in
@@ -390,8 +390,8 @@ infer_arguments-returns-in_err-found-clause-value g t c Δ Γ us ps r q v =
     (transport (λ z. Shows (h s1) (m s1) z n e) (ap₂ (λ x y. infer_all Δ (infer Δ) Γ x y c.args.fuel.now) q v)
     (all_shows Δ (infer Δ) Γ (h s1) (m s1) (m s0) (λ l. m s0 l.ty) c.args.fuel.now n e xs ys k u c.requires.count lt (λ P f. shows_after (h s1) (m s1) _ _ _ _ n e (inv.value Δ Γ r) (shows_more (h s1) (m s1) _ _ n e (c.in_err-found.ensures.value Δ Γ U rl au)))))
 
-pub infer_arguments-fit-requires-clause-globals : goal.infer_arguments-fit-requires-clause-globals
-infer_arguments-fit-requires-clause-globals g t c =
+pub instances::infer_arguments-fit-requires-clause-globals : goal.instances::infer_arguments-fit-requires-clause-globals
+instances::infer_arguments-fit-requires-clause-globals g t c =
     let h = g.T.Terms.holds in
     let m = g.T.Terms.means in
     let s0 = c.args.terms.now in
@@ -409,8 +409,8 @@ infer_arguments-fit-requires-clause-globals g t c =
     let k2 = keeps_both (h s0) (m s0) (h s1) (m s1) (h s2) (m s2) k1 c.in_ok-wanted.ensures.kept in
     globals_kept (h s0) (m s0) (h s2) (m s2) k2 (g.G.Globals.items c.args.globals.now) (g.G.Globals.metas c.args.globals.now) c.requires.globals
 
-pub infer_arguments-returns-in_err-fit-clause-value : goal.infer_arguments-returns-in_err-fit-clause-value
-infer_arguments-returns-in_err-fit-clause-value g t c Δ Γ us ps r q v =
+pub instances::infer_arguments-returns-in_err-fit-clause-value : goal.instances::infer_arguments-returns-in_err-fit-clause-value
+instances::infer_arguments-returns-in_err-fit-clause-value g t c Δ Γ us ps r q v =
     let h = g.T.Terms.holds in
     let m = g.T.Terms.means in
     let s0 = c.args.terms.now in
@@ -447,8 +447,8 @@ infer_arguments-returns-in_err-fit-clause-value g t c Δ Γ us ps r q v =
     (transport (λ z. Shows (h s3) (m s3) z n e) (ap₂ (λ x y. infer_all Δ (infer Δ) Γ x y c.args.fuel.now) q v)
     (all_shows Δ (infer Δ) Γ (h s3) (m s3) (m s0) (λ l. m s0 l.ty) c.args.fuel.now n e xs ys k u c.requires.count lt (λ P f. shows_after (h s3) (m s3) _ _ _ _ n e (inv.value Δ Γ r) (shows_after (h s3) (m s3) _ _ _ _ n e e2 (c.in_err-fit.ensures.value Δ Γ F (subst_all usk P) r2.env d eqf (eqw ∙ ap (subst_all usk) (sym (f pr))))))))
 
-pub infer_arguments-loop-k-preserved : goal.infer_arguments-loop-k-preserved
-infer_arguments-loop-k-preserved g t c =
+pub instances::infer_arguments-loop-k-preserved : goal.instances::infer_arguments-loop-k-preserved
+instances::infer_arguments-loop-k-preserved g t c =
     let h = g.T.Terms.holds in
     let m = g.T.Terms.means in
     let s0 = c.args.terms.now in
@@ -487,8 +487,8 @@ infer_arguments-loop-k-preserved g t c =
           ap₂ (λ x y. infer_all Δ (infer Δ) Γ x y c.args.fuel.now) (terms_of_more (m s0) xs k u lt) (terms_of_more (λ l. m s0 l.ty) ys k pr (omega (arith, lt, c.requires.count))) ∙ after _ _ _ _ (inv.value Δ Γ r) ∙ after _ _ _ _ e2 ∙ c.in_ok-fit.ensures.value Δ Γ F (subst_all usk W) r2.env d eqf eqw;
     }
 
-pub infer_arguments-returns-clause-value : goal.infer_arguments-returns-clause-value
-infer_arguments-returns-clause-value g t c Δ Γ us ps r q v =
+pub instances::infer_arguments-returns-clause-value : goal.instances::infer_arguments-returns-clause-value
+instances::infer_arguments-returns-clause-value g t c Δ Γ us ps r q v =
     let h = g.T.Terms.holds in
     let m = g.T.Terms.means in
     let s0 = c.args.terms.now in
@@ -499,16 +499,16 @@ infer_arguments-returns-clause-value g t c Δ Γ us ps r q v =
     let ey = take_all c.loop-k.k ys (omega (arith, c.loop-k-test.false, c.requires.count)) in
     ap₂ (λ x y. infer_all Δ (infer Δ) Γ x y c.args.fuel.now) (sym q ∙ sym (ap (λ l. terms_of (map (m s0) l)) ex)) (sym v ∙ sym (ap (context_of (m s0)) ey)) ∙ inv.value Δ Γ r
 
-pub infer_application-returns-in_err-spine-clause-value : goal.infer_application-returns-in_err-spine-clause-value
-infer_application-returns-in_err-spine-clause-value g t c Δ Γ F A r p a =
+pub inference::infer_application-returns-in_err-spine-clause-value : goal.inference::infer_application-returns-in_err-spine-clause-value
+inference::infer_application-returns-in_err-spine-clause-value g t c Δ Γ F A r p a =
     let h = g.T.Terms.holds c.args.terms.now in
     let m = g.T.Terms.means c.args.terms.now in
     let e = c.in_err-spine.field-0.0 in
     residual h m m _ _ c.from_residual.result e c.from_residual.ensures.1
     (transport (λ x. Shows h m (infer_case Δ (infer Δ) Γ x c.args.fuel.now) c.spine_of.new.fuel e) (ap₂ App p a) (c.in_err-spine.ensures.fault Δ Γ))
 
-pub infer_application-returns-in_err-found-clause-value : goal.infer_application-returns-in_err-found-clause-value
-infer_application-returns-in_err-found-clause-value g t c Δ Γ F A r p a =
+pub inference::infer_application-returns-in_err-found-clause-value : goal.inference::infer_application-returns-in_err-found-clause-value
+inference::infer_application-returns-in_err-found-clause-value g t c Δ Γ F A r p a =
     let h = g.T.Terms.holds in
     let m = g.T.Terms.means in
     let s0 = c.args.terms.now in
@@ -521,15 +521,15 @@ infer_application-returns-in_err-found-clause-value g t c Δ Γ F A r p a =
     (transport (λ o. Shows (h s1) (m s1) o n e) (sym (ap (λ x. infer_case Δ (infer Δ) Γ x c.args.fuel.now) (sym (ap₂ App p a)) ∙ c.in_ok-spine.ensures.spine Δ Γ))
     (along_shows (h s1) (m s1) Δ Γ (pair_trees (m s0) w) (infer Δ Γ head c.spine_of.new.fuel) n e (c.in_err-found.ensures.value Δ Γ head r refl)))
 
-pub infer_application-infer_along-requires : goal.infer_application-infer_along-requires
-infer_application-infer_along-requires g t c κs within =
+pub inference::infer_application-infer_along-requires : goal.inference::infer_application-infer_along-requires
+inference::infer_application-infer_along-requires g t c κs within =
     let h = g.T.Terms.holds in
     let m = g.T.Terms.means in
     let waiting = pairs_held (h c.args.terms.now) (m c.args.terms.now) (h c.infer_in.new.terms) (m c.infer_in.new.terms) c.in_ok-found.ensures.kept c.in_ok-spine.spine.waiting.items c.in_ok-spine.ensures.waiting in
     (search rules, (within.0, (within.1.0, (within.1.1, (c.in_ok-found.ensures.held, (waiting, (search rules, (search rules, search rules))))))))
 
-pub infer_along-returns-in_err-found-clause-value : goal.infer_along-returns-in_err-found-clause-value
-infer_along-returns-in_err-found-clause-value g t c Δ Γ F r q =
+pub inference::infer_along-returns-in_err-found-clause-value : goal.inference::infer_along-returns-in_err-found-clause-value
+inference::infer_along-returns-in_err-found-clause-value g t c Δ Γ F r q =
     let h = g.T.Terms.holds in
     let m = g.T.Terms.means in
     let s0 = c.args.terms.now in
@@ -550,8 +550,8 @@ infer_along-returns-in_err-found-clause-value g t c Δ Γ F r q =
     residual (h s1) (m s1) _ _ _ c.from_residual.result e c.from_residual.ensures.1
     (transport (λ o. Shows (h s1) (m s1) o n e) (sym turn) (along_shows (h s1) (m s1) Δ Γ (pair_trees (m s0) rest) (applied_type Δ Γ (m s0 f) (m s0 a) T c.loop-pair.fuel) n e shows))
 
-pub infer_along-loop-pair-preserved : goal.infer_along-loop-pair-preserved
-infer_along-loop-pair-preserved g t c =
+pub inference::infer_along-loop-pair-preserved : goal.inference::infer_along-loop-pair-preserved
+inference::infer_along-loop-pair-preserved g t c =
     let h = g.T.Terms.holds in
     let m = g.T.Terms.means in
     let s0 = c.args.terms.now in
@@ -576,8 +576,8 @@ infer_along-loop-pair-preserved g t c =
           ∙ ap (along Δ Γ (pair_trees (m s0) rest)) (c.in_ok-found.ensures.value Δ Γ T (m s0 f) (m s0 a) rl refl (inv.kept f held.1.0).1 (inv.kept a held.1.1).1);
     }
 
-pub infer_in-returns-in-Const-clause-value : goal.infer_in-returns-in-Const-clause-value
-infer_in-returns-in-Const-clause-value g t c Δ Γ x r e =
+pub inference::infer_in-returns-in-Const-clause-value : goal.inference::infer_in-returns-in-Const-clause-value
+inference::infer_in-returns-in-Const-clause-value g t c Δ Γ x r e =
     let h = g.T.Terms.holds in
     let m = g.T.Terms.means in
     let pos : 0 < c.args.fuel.now = search rules in
@@ -589,8 +589,8 @@ infer_in-returns-in-Const-clause-value g t c Δ Γ x r e =
     transport (λ o. Answers (h s1) (m s1) (m s1) o c.infer_item.new.fuel c.infer_item.result) (sym (entered Δ Γ x (Con name us) c.args.fuel.now n pos c.if-not-spend.ensures.rest (tr ∙ e)))
     (c.infer_item.ensures.value Δ Γ name us r (sym tr))
 
-pub infer_in-returns-in-Meta-clause-value : goal.infer_in-returns-in-Meta-clause-value
-infer_in-returns-in-Meta-clause-value g t c Δ Γ x r e =
+pub inference::infer_in-returns-in-Meta-clause-value : goal.inference::infer_in-returns-in-Meta-clause-value
+inference::infer_in-returns-in-Meta-clause-value g t c Δ Γ x r e =
     let h = g.T.Terms.holds in
     let m = g.T.Terms.means in
     let pos : 0 < c.args.fuel.now = search rules in
@@ -602,8 +602,8 @@ infer_in-returns-in-Meta-clause-value g t c Δ Γ x r e =
     transport (λ o. Answers (h s1) (m s1) (m s1) o c.infer_item-in-Meta.new.fuel c.infer_item-in-Meta.result) (sym (entered Δ Γ x (Con name us) c.args.fuel.now n pos c.if-not-spend.ensures.rest (tr ∙ e)))
     (c.infer_item-in-Meta.ensures.value Δ Γ name us r (sym tr))
 
-pub infer_application-returns-clause-value : goal.infer_application-returns-clause-value
-infer_application-returns-clause-value g t c Δ Γ F A r p a =
+pub inference::infer_application-returns-clause-value : goal.inference::infer_application-returns-clause-value
+inference::infer_application-returns-clause-value g t c Δ Γ F A r p a =
     let h = g.T.Terms.holds in
     let m = g.T.Terms.means in
     let s0 = c.args.terms.now in
@@ -619,16 +619,16 @@ infer_application-returns-clause-value g t c Δ Γ F A r p a =
     ∙ ap (λ ps. along Δ Γ ps (Gave T c.infer_in.new.fuel)) (sym (trees_kept (h s0) (m s0) (h s1) (m s1) k1 w c.in_ok-spine.ensures.waiting)) in
     transport (λ o. Answers (h s2) (m s2) (m s2) o c.infer_along.new.fuel c.infer_along.result) (sym same) (c.infer_along.ensures.value Δ Γ T r1 refl)
 
-pub infer_applied-returns-in_err-domain-clause-value : goal.infer_applied-returns-in_err-domain-clause-value
-infer_applied-returns-in_err-domain-clause-value g t c Δ Γ S F A r w p a =
+pub inference::infer_applied-returns-in_err-domain-clause-value : goal.inference::infer_applied-returns-in_err-domain-clause-value
+inference::infer_applied-returns-in_err-domain-clause-value g t c Δ Γ S F A r w p a =
     let h = g.T.Terms.holds in
     let m = g.T.Terms.means in
     let s1 = c.product_form.new.terms in
     residual (h s1) (m s1) _ _ _ c.from_residual.result c.in_err-domain.field-0.0 c.from_residual.ensures.1
     (shows_more (h s1) (m s1) _ _ _ _ (c.in_err-domain.ensures.value Δ Γ F S r p w))
 
-pub infer_applied-returns-in_err-found-clause-value : goal.infer_applied-returns-in_err-found-clause-value
-infer_applied-returns-in_err-found-clause-value g t c Δ Γ S F A r w p a =
+pub inference::infer_applied-returns-in_err-found-clause-value : goal.inference::infer_applied-returns-in_err-found-clause-value
+inference::infer_applied-returns-in_err-found-clause-value g t c Δ Γ S F A r w p a =
     let h = g.T.Terms.holds in
     let m = g.T.Terms.means in
     let s0 = c.args.terms.now in
@@ -641,8 +641,8 @@ infer_applied-returns-in_err-found-clause-value g t c Δ Γ S F A r w p a =
     residual (h s2) (m s2) _ _ _ c.from_residual-in_err-found.result c.in_err-found.field-0.0 c.from_residual-in_err-found.ensures.1
     (shows_after (h s2) (m s2) _ _ _ _ _ _ e1 (shows_more (h s2) (m s2) _ _ _ _ (c.in_err-found.ensures.value Δ Γ A r1 a1)))
 
-pub infer_applied-returns-in_err-fit-clause-value : goal.infer_applied-returns-in_err-fit-clause-value
-infer_applied-returns-in_err-fit-clause-value g t c Δ Γ S F A r w p a =
+pub inference::infer_applied-returns-in_err-fit-clause-value : goal.inference::infer_applied-returns-in_err-fit-clause-value
+inference::infer_applied-returns-in_err-fit-clause-value g t c Δ Γ S F A r w p a =
     let h = g.T.Terms.holds in
     let m = g.T.Terms.means in
     let s0 = c.args.terms.now in
@@ -661,8 +661,8 @@ infer_applied-returns-in_err-fit-clause-value g t c Δ Γ S F A r w p a =
     residual (h s3) (m s3) _ _ _ c.from_residual-in_err-fit.result c.in_err-fit.field-0.0 c.from_residual-in_err-fit.ensures.1
     (shows_after (h s3) (m s3) _ _ _ _ _ _ e1 (shows_after (h s3) (m s3) _ _ _ _ _ _ e2 (shows_more (h s3) (m s3) _ _ _ _ (c.in_err-fit.ensures.value Δ Γ _ _ r2.env d2 refl kd))))
 
-pub infer_applied-returns-clause-value : goal.infer_applied-returns-clause-value
-infer_applied-returns-clause-value g t c Δ Γ S F A r w p a =
+pub inference::infer_applied-returns-clause-value : goal.inference::infer_applied-returns-clause-value
+inference::infer_applied-returns-clause-value g t c Δ Γ S F A r w p a =
     let h = g.T.Terms.holds in
     let m = g.T.Terms.means in
     let s0 = c.args.terms.now in
@@ -688,8 +688,8 @@ infer_applied-returns-clause-value g t c Δ Γ S F A r w p a =
     answers_after (h s4) (m s4) (m s4) _ _ _ _ _ _ e1 (answers_after (h s4) (m s4) (m s4) _ _ _ _ _ _ e2 (answers_after (h s4) (m s4) (m s4) _ _ _ _ _ _ e3
     (transport (λ T. Answers (h s4) (m s4) (m s4) (Gave T n) n c.put_in.result) (ap₂ (λ x B. subst_all (none ▹ x) B) a3 b3) (c.put_in.ensures.value n))))
 
-pub infer_item-returns-in-Some-clause-value : goal.infer_item-returns-in-Some-clause-value
-infer_item-returns-in-Some-clause-value g t c Δ Γ k us r e =
+pub instances::infer_item-returns-in-Some-clause-value : goal.instances::infer_item-returns-in-Some-clause-value
+instances::infer_item-returns-in-Some-clause-value g t c Δ Γ k us r e =
     let h = g.T.Terms.holds in
     let m = g.T.Terms.means in
     let s0 = c.args.terms.now in
@@ -703,8 +703,8 @@ infer_item-returns-in-Some-clause-value g t c Δ Γ k us r e =
     transport (λ o. Answers (h s1) (m s1) (m s1) o c.infer_instance.new.fuel c.infer_instance.result) (sym (item_instance Δ Γ k us n (ps, T) q))
     (c.infer_instance.ensures.value Δ Γ k us ps T r e args refl refl)
 
-pub infer_item-returns-clause-value : goal.infer_item-returns-clause-value
-infer_item-returns-clause-value g t c Δ Γ k us r e =
+pub instances::infer_item-returns-clause-value : goal.instances::infer_item-returns-clause-value
+instances::infer_item-returns-clause-value g t c Δ Γ k us r e =
     let m = g.T.Terms.means c.args.terms.now in
     let n = c.args.fuel.now in
     let q = signature_read m c.args.h Δ _ k us None c.in-None.ensures.signature r.env e in
