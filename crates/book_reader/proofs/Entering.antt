@@ -1,5 +1,5 @@
 -- A book's items, one after another.
-use Rattle.std.proofs.Common.{◌≡◌, ℕ, zero, suc, ◌+◌, ◌<◌, ◌≤◌, List, [], ◌∷◌, length, All, drop, get_or, Result, Ok, Err, refl, sym, ap, ap₂, ◌∙◌, arith, subst}
+use Rattle.std.proofs.Common.{◌≡◌, ℕ, zero, suc, ◌+◌, ◌<◌, ◌≤◌, List, ◌∷◌, length, All, drop, get_or, Result, Ok, Err, sym, ap, ap₂, ◌∙◌, arith, subst}
 use Rattle.std.specs.Prelude.{IsErrAnd}
 use Rattle.std.proofs.lemmas.List.{drop_all}
 use Rattle.ld_trees.specs.Term.{Term}
@@ -10,7 +10,7 @@ use Rattle.book_reader.specs.declared.checked.ItemFault.{ItemFault}
 use Rattle.book_reader.specs.declared.checked.ItemFault.TheVariants as fault
 use Rattle.book_reader.specs.declared.fault.BookFault.{BookFault}
 use Rattle.book_reader.specs.Items.{ItemRefusal, item}
-use Rattle.book_reader.specs.Book.{BookRefusal, AtItem, behind, enter}
+use Rattle.book_reader.specs.Book.{BookRefusal, behind, enter}
 use Rattle.book_reader.specs.Checked.{Shows}
 use Rattle.book_reader.specs.Answers.{ShowsBook, IsBook}
 use Rattle.meta_context.specs.Plain.{plain_items}

@@ -4,7 +4,7 @@ use Rattle.std.specs.Prelude.{IsErrAnd}
 use Rattle.ld_trees.specs.Term.{Sort, Term, Srt}
 use Rattle.ld_terms.specs.declared.halt.Halt.{Halt}
 use Rattle.ld_terms.specs.declared.halt.Halt.TheVariants as halt
-use Rattle.term_syntax.specs.Scoping.{Scoped}
+use Rattle.term_syntax.specs.Scoping.{Resolved}
 use Rattle.term_syntax.specs.declared.scope_fault.ScopeFault.{ScopeFault}
 use Rattle.term_syntax.specs.declared.scope_fault.ScopeFault.TheVariants as scope
 use Rattle.term_text.specs.Scoped.{Refuses}
@@ -19,7 +19,7 @@ use Rattle.kernel_check.specs.declared.fault.KernelFault.{KernelFault}
 use Rattle.kernel_check.specs.declared.fault.KernelFault.TheVariants as kernel
 use Rattle.book_reader.specs.declared.checked.ItemFault.{ItemFault}
 use Rattle.book_reader.specs.declared.checked.ItemFault.TheVariants as fault
-use Rattle.book_reader.specs.Items.{ItemRefusal, NameTaken, Scope, Kernel, Fuel, Check, go_on, pure, refuse, scoped, ran, choose, fits}
+use Rattle.book_reader.specs.Items.{ItemRefusal, Kernel, Check, go_on, pure, refuse, scoped, ran, choose, fits}
 use Rattle.book_reader.specs.Faults.{scope_fault, kernel_fault, halt_fault}
 use Rattle.book_reader.specs.Checked.{Shows, Answers}
 
@@ -56,7 +56,7 @@ module _ {H : Type 0} (holds : H → Type 0) (means : H → Term) where
   halt_shows value o left halt.Fuel h = (_, ap ran h.0, refl)
   halt_shows value o left halt.Memory h = tt
 
-  pub scope_shows : (o : Scoped Term) (n : ℕ) (e : ScopeFault) → Refuses o e → Shows holds means (scoped o n) (scope_fault e)
+  pub scope_shows : (o : Resolved Term) (n : ℕ) (e : ScopeFault) → Refuses o e → Shows holds means (scoped o n) (scope_fault e)
   scope_shows o n scope.Memory h = tt
   scope_shows o n (scope.UnknownName at name) h = (_, ap (λ o. scoped o n) h, refl)
   scope_shows o n (scope.WrongCount at name given wanted) h = (_, ap (λ o. scoped o n) h, refl)

@@ -1,9 +1,8 @@
 -- A book behind a legal environment makes a legal one.
-use Rattle.std.proofs.Common.{◌≡◌, ℕ, suc, Bool, true, false, List, [], ◌∷◌, ◌++◌, length, map, Option, Some, None, option_map, Result, Ok, Err, refl, sym, ap, ap₂, ◌∙◌, subst}
+use Rattle.std.proofs.Common.{◌≡◌, ℕ, suc, Bool, true, false, List, [], ◌∷◌, ◌++◌, length, Option, Some, None, option_map, Result, Ok, Err, refl, sym, ap, ◌∙◌, subst}
 use Rattle.std.specs.Prelude.{is_some}
-use Rattle.std.proofs.lemmas.Bool.{false≢true}
-use Rattle.ld_trees.specs.Term.{Sort, Named, Term, Srt, Star, Square, none, ◌▹◌}
-use Rattle.ld_rules.specs.Environment.{Ctx, Env, Item, item_of}
+use Rattle.ld_trees.specs.Term.{Sort, Named, Term, Srt, ◌▹◌}
+use Rattle.ld_rules.specs.Environment.{item_of}
 use Rattle.ld_rules.specs.Derivation.{Derives, weak, conv as converts}
 use Rattle.ld_rules.specs.Legality.{IsLegal, IsLegalEnvironment, MayBeAdded}
 use Rattle.ld_rules.proofs.Environments.{adding}
@@ -11,7 +10,6 @@ use Rattle.ld_terms.specs.Items.{item_named}
 use Rattle.ld_terms.specs.declared.globals.Item.{Item as StoredItem}
 use Rattle.ld_terms.specs.declared.globals.Local.{Local}
 use Rattle.ld_terms.proofs.Arguments.{terms_of_end}
-use Rattle.term_syntax.specs.Scoping.{Scoped}
 use Rattle.term_syntax.specs.declared.surface.Surface.{Surface}
 use Rattle.term_syntax.specs.Lex.{Text}
 use Rattle.conversion.specs.Globals.{item_tree}
@@ -24,8 +22,8 @@ use Rattle.kernel_check.proofs.Soundness.{inference_is_sound, sort_is_sound}
 use Rattle.meta_context.specs.Plain.{rules_ctx, rules_env}
 use Rattle.book_reader.specs.declared.source.Parameter.{Parameter}
 use Rattle.book_reader.specs.declared.source.Source.{Source}
-use Rattle.book_reader.specs.Items.{ItemRefusal, NameTaken, Kernel, Check, go_on, pure, refuse, scoped, ran, kernel, choose, entry_name, resolved, sorted, typed, parameters, fits, body, optional_body, new_name, item}
-use Rattle.book_reader.specs.Book.{BookRefusal, AtItem, behind, enter}
+use Rattle.book_reader.specs.Items.{ItemRefusal, NameTaken, Kernel, Check, go_on, pure, refuse, ran, kernel, choose, entry_name, resolved, sorted, typed, parameters, fits, body, optional_body, new_name, item}
+use Rattle.book_reader.specs.Book.{BookRefusal, behind, enter}
 
 -- ---- a check that gave a value
 

@@ -3,9 +3,11 @@ pub mod Meanings
 pub mod ParameterNames
 pub mod Legal
 pub mod Entering
-pub mod Kept
-pub mod Places
-pub mod Terms
-pub mod Tokens
 pub mod Turns
+pub mod Sound
+pub mod Complete
+pub mod Refusals
+pub mod Ends
+pub mod NamedItems
+pub mod Texts
 pub mod Whole

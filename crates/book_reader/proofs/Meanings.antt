@@ -1,9 +1,8 @@
 -- What a stored environment and stored parameters mean, while the store grows.
-use Rattle.std.proofs.Common.{◌≡◌, ℕ, zero, suc, ◌+◌, ◌<◌, ◌≤◌, List, [], ◌∷◌, ◌++◌, length, map, All, drop, drop-cons, Bool, true, false, cond, Result, Ok, Err, Option, Some, None, option_map, get_or, refl, sym, ap, ap₂, ◌∙◌, arith}
+use Rattle.std.proofs.Common.{◌≡◌, ℕ, zero, suc, ◌+◌, ◌<◌, ◌≤◌, List, [], ◌∷◌, ◌++◌, length, All, drop, drop-cons, Bool, true, false, cond, Ok, Err, Option, Some, None, option_map, get_or, refl, sym, ap, ap₂, ◌∙◌, arith}
 use Rattle.std.proofs.Math.Path.{fun_ext}
 use Rattle.std.specs.Str.{bytes_eq}
 use Rattle.ld_trees.specs.Term.{Term}
-use Rattle.ld_rules.specs.Environment.{Ctx, Env}
 use Rattle.ld_terms.specs.Items.{item_named}
 use Rattle.ld_terms.specs.Views.{Keeps}
 use Rattle.ld_terms.specs.declared.globals.Item.{Item}
@@ -11,7 +10,6 @@ use Rattle.ld_terms.specs.declared.globals.Local.{Local}
 use Rattle.conversion.specs.Globals.{AreLocals, IsItemOf, IsOptional, context_of, env_of}
 use Rattle.term_text.specs.Scoped.{arities}
 use Rattle.term_syntax.specs.Lex.{Text}
-use Rattle.term_syntax.specs.Scoping.{Arities}
 use Rattle.meta_context.specs.Entered.{names_of}
 use Rattle.meta_context.specs.Plain.{plain_local, plain_locals, plain_item, plain_items, rules_ctx, rules_env}
 use Rattle.meta_context.proofs.PlainItems.{context_again, env_again}

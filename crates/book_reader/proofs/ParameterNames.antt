@@ -1,7 +1,7 @@
 -- The names of parameters, one more at a time.
-use Rattle.std.proofs.Common.{◌≡◌, ℕ, zero, suc, ◌+◌, ◌<◌, List, [], ◌∷◌, ◌++◌, length, map, Option, Some, None, inl, inr, ◌⊎◌, refl, sym, ap, ◌∙◌, arith, subst}
+use Rattle.std.proofs.Common.{◌≡◌, ℕ, ◌+◌, ◌<◌, List, [], ◌∷◌, ◌++◌, length, Option, Some, None, inl, inr, refl, sym, ap, ◌∙◌, arith, subst}
 use Rattle.std.proofs.lemmas.List.{map-append, length-append, length-map}
-use Rattle.ld_terms.specs.Names.{IsEntryName, level_name}
+use Rattle.ld_terms.specs.Names.{IsEntryName}
 use Rattle.ld_terms.specs.declared.globals.Local.{Local}
 use Rattle.term_syntax.specs.Lex.{Text}
 use Rattle.term_syntax.specs.Printing.{Names}

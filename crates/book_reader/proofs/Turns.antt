@@ -1,18 +1,19 @@
 -- The loops over parameters and items, beside recursions on a count of turns that is above the number of tokens left.
-use Rattle.std.proofs.Common.{◌≡◌, ℕ, zero, suc, ◌+◌, ◌<◌, ◌≤◌, Bool, true, false, List, [], ◌∷◌, ◌++◌, length, Option, Some, None, Result, Ok, Err, refl, sym, ap, ◌∙◌, arith, subst, if◌then◌else◌, All}
+use Rattle.std.proofs.Common.{◌≡◌, ℕ, zero, suc, ◌<◌, Bool, true, false, List, [], ◌∷◌, ◌++◌, length, Some, None, Result, Ok, Err, refl, sym, ◌∙◌, arith, subst, if◌then◌else◌}
 use Rattle.std.specs.Prelude.{IsErrAnd}
 use Rattle.term_syntax.specs.declared.kind.Kind.{Kind}
 use Rattle.term_syntax.specs.declared.kind.Kind.TheVariants as k
 use Rattle.term_syntax.specs.declared.fault.ReadFault.{ReadFault}
 use Rattle.term_syntax.specs.declared.fault.ReadFault.TheVariants as fault
 use Rattle.term_syntax.specs.Kinds.{is_kind}
-use Rattle.term_syntax.specs.Input.{Input, kind, is_nil, place}
-use Rattle.term_syntax.specs.Reading.{Outcome, Parser, ◌>>=◌, pure, refuse, sees, expect, at_end, take_token, term}
+use Rattle.term_syntax.specs.Input.{Input, kind, is_nil}
+use Rattle.term_syntax.specs.Reading.{Outcome, Parser, Reads, term}
 use Rattle.term_syntax.specs.Grammar.{max_nesting}
-use Rattle.term_syntax.proofs.Progress.{left, Shorter, NoLonger, shorter_then, no_longer_then, weak, expect_shorter, shut, take_no_longer, pure_no_longer, refuse_shorter, if_no_longer, chosen, term_shorter, ok_inj}
+use Rattle.term_syntax.proofs.Progress.{left, Shorter, NoLonger, shorter_then, no_longer_then, then_shorter, weak, expect_shorter, shut, take_no_longer, pure_no_longer, peek_no_longer, refuse_shorter, if_no_longer, binder_shorter, term_shorter}
 use Rattle.book_reader.specs.declared.source.Parameter.{Parameter}
 use Rattle.book_reader.specs.declared.source.Source.{Source}
-use Rattle.book_reader.specs.Reading.{Reads, name_by, item_name, parameter_name_by, parameter_name, parameter, parameters_from, parameters, definition, primitive, item, items_from, items}
+use Rattle.book_reader.specs.Grammar.{parameter_of}
+use Rattle.book_reader.specs.Reading.{name_by, item_name, parameter, parameters_from, parameters, definition, primitive, item, items_from, items}
 
 -- ---- fewer tokens are left
 
@@ -25,32 +26,17 @@ item_name_no_longer : NoLonger item_name
 unfolding item_name
 item_name_no_longer i a j e = name_by_no_longer (kind i) i a j e
 
-label_by_no_longer : (t : Kind) → NoLonger (parameter_name_by t)
-label_by_no_longer k.Name = no_longer_then _ _ take_no_longer (λ t. pure_no_longer (Some t))
-label_by_no_longer k.Level = no_longer_then _ _ take_no_longer (λ t. pure_no_longer None)
-label_by_no_longer k.Call = no_longer_then _ _ take_no_longer (λ t. weak _ refuse_shorter)
-label_by_no_longer _ = weak _ refuse_shorter
-
-label_no_longer : NoLonger parameter_name
-unfolding parameter_name
-label_no_longer i a j e = label_by_no_longer (kind i) i a j e
-
 term_no_longer : NoLonger (term max_nesting)
 term_no_longer = weak _ (term_shorter max_nesting)
 
 pub parameter_shorter : Shorter parameter
-unfolding parameter is_kind
-parameter_shorter = shorter_then _ _ (expect_shorter k.Open refl) (λ _. no_longer_then _ _ label_no_longer (λ name. no_longer_then _ _ (shut k.Colon refl) (λ _. no_longer_then _ _ term_no_longer (λ ty. no_longer_then _ _ (shut k.Close refl) (λ _. pure_no_longer (record { name = name; ty = ty }))))))
+unfolding parameter
+parameter_shorter = shorter_then _ _ (binder_shorter (term 512) (term_shorter 512)) (λ b. pure_no_longer (parameter_of b.0 b.1))
 
 parameters_from_no_longer : (n : ℕ) (found : List Parameter) → NoLonger (parameters_from n found)
 unfolding parameters_from
-parameters_from_no_longer zero found i a j e = pure_no_longer found i a j e
-parameters_from_no_longer (suc n) found i a j e =
-    if_no_longer (sees k.Open i) (parameter >>= (λ p. parameters_from n (found ++ p ∷ []))) (pure found)
-    (no_longer_then _ _ (weak _ parameter_shorter) (λ p. parameters_from_no_longer n (found ++ p ∷ []))) (pure_no_longer found) i a j (by (sees k.Open i) e) where
-      by : (b : Bool) → (if b then (parameter >>= (λ p. parameters_from n (found ++ p ∷ []))) i else pure found i) ≡ Ok (a, j) → (if b then (parameter >>= (λ p. parameters_from n (found ++ p ∷ []))) else pure found) i ≡ Ok (a, j)
-      by true e = e
-      by false e = e
+parameters_from_no_longer zero found = pure_no_longer found
+parameters_from_no_longer (suc n) found = no_longer_then _ _ peek_no_longer (λ kind. if_no_longer (is_kind kind k.Open) _ _ (no_longer_then _ _ (weak _ parameter_shorter) (λ p. parameters_from_no_longer n (found ++ p ∷ []))) (pure_no_longer found))
 
 parameters_no_longer : NoLonger parameters
 unfolding parameters
@@ -68,12 +54,13 @@ primitive_shorter =
     shorter_then _ _ (expect_shorter k.Prim refl) (λ _. no_longer_then _ _ item_name_no_longer (λ name. no_longer_then _ _ parameters_no_longer (λ params.
     no_longer_then _ _ (shut k.Colon refl) (λ _. no_longer_then _ _ term_no_longer (λ ty. no_longer_then _ _ (shut k.Semi refl) (λ _. pure_no_longer (record { name = name; params = params; ty = ty; body = None })))))))
 
+if_shorter : {A : Type 0} (b : Bool) (p q : Parser A) → Shorter p → Shorter q → Shorter (if b then p else q)
+if_shorter true p q x y = x
+if_shorter false p q x y = y
+
 pub item_shorter : Shorter item
 unfolding item
-item_shorter i a j e = by (sees k.Def i) e where
-  by : (b : Bool) → (if b then definition i else primitive i) ≡ Ok (a, j) → left j < left i
-  by true e = definition_shorter i a j e
-  by false e = primitive_shorter i a j e
+item_shorter = then_shorter _ _ peek_no_longer (λ kind. if_shorter (is_kind kind k.Def) _ _ definition_shorter primitive_shorter)
 
 -- ---- turns
 
@@ -86,17 +73,17 @@ unfolding parameters
 parameters_init i found none = (suc (length i.ahead), omega arith, rw none refl)
 
 pub parameters_turn : (w : Outcome (List Parameter)) (i : Input) (found : List Parameter) (x : Parameter) (j : Input) (more : List Parameter)
-    → Leads w parameters_from found i → sees k.Open i ≡ true → parameter i ≡ Ok (x, j) → more ≡ found ++ x ∷ [] → Leads w parameters_from more j
+    → Leads w parameters_from found i → is_kind (kind i) k.Open ≡ true → parameter i ≡ Ok (x, j) → more ≡ found ++ x ∷ [] → Leads w parameters_from more j
 unfolding parameters_from
 parameters_turn w i found x j more (zero, below, e) begins got is = absurd (omega arith)
 parameters_turn w i found x j more (suc n, below, e) begins got is = (n, omega (arith, parameter_shorter i x j got), e ∙ rw (begins, got, is) refl)
 
-pub parameters_done : (w : Outcome (List Parameter)) (i : Input) (found : List Parameter) → Leads w parameters_from found i → sees k.Open i ≡ false → w ≡ Ok (found, i)
+pub parameters_done : (w : Outcome (List Parameter)) (i : Input) (found : List Parameter) → Leads w parameters_from found i → is_kind (kind i) k.Open ≡ false → w ≡ Ok (found, i)
 unfolding parameters_from
 parameters_done w i found (zero, below, e) over = absurd (omega arith)
 parameters_done w i found (suc n, below, e) over = e ∙ rw over refl
 
-parameters_fault : (w : Outcome (List Parameter)) (i : Input) (found : List Parameter) (at : Input) → Leads w parameters_from found i → sees k.Open i ≡ true → parameter i ≡ Err at → w ≡ Err at
+parameters_fault : (w : Outcome (List Parameter)) (i : Input) (found : List Parameter) (at : Input) → Leads w parameters_from found i → is_kind (kind i) k.Open ≡ true → parameter i ≡ Err at → w ≡ Err at
 unfolding parameters_from
 parameters_fault w i found at (zero, below, e) begins got = absurd (omega arith)
 parameters_fault w i found at (suc n, below, e) begins got = e ∙ rw (begins, got) refl
@@ -126,10 +113,10 @@ pub passed : {A : Type 0} (o : Outcome A) (r : Result A ReadFault) (e : ReadFaul
 passed o (Ok x) e new p h = absurd p
 passed o (Err x) e new p h = subst (λ x. Reads o (Err x) new) (sym p) h
 
-pub parameters_refused : (w : Outcome (List Parameter)) (i : Input) (found : List Parameter) (e : ReadFault) (new : Input) → Leads w parameters_from found i → sees k.Open i ≡ true → Reads (parameter i) (Err e) new → Reads w (Err e) new
+pub parameters_refused : (w : Outcome (List Parameter)) (i : Input) (found : List Parameter) (e : ReadFault) (new : Input) → Leads w parameters_from found i → is_kind (kind i) k.Open ≡ true → Reads (parameter i) (Err e) new → Reads w (Err e) new
 parameters_refused w i found fault.Memory new l s h = tt
-parameters_refused w i found (fault.Syntax at) new l s h = (h.0, parameters_fault w i found h.0 l s h.1, h.2)
+parameters_refused w i found (fault.Syntax at) new l s h = (parameters_fault w i found new l s h.0, h.1)
 
 pub items_refused : (w : Outcome (List Source)) (i : Input) (found : List Source) (e : ReadFault) (new : Input) → Leads w items_from found i → is_nil i.ahead ≡ false → Reads (item i) (Err e) new → Reads w (Err e) new
 items_refused w i found fault.Memory new l s h = tt
-items_refused w i found (fault.Syntax at) new l s h = (h.0, items_fault w i found h.0 l s h.1, h.2)
+items_refused w i found (fault.Syntax at) new l s h = (items_fault w i found new l s h.0, h.1)

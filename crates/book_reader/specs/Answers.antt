@@ -1,7 +1,6 @@
 -- What the reader of books answers, over a store of terms.
-use Rattle.std.specs.Prelude.{◌≡◌, ℕ, List, All, map, option_map, Option, Some, None, Result, Ok, Err}
+use Rattle.std.specs.Prelude.{◌≡◌, List, All, Result, Ok, Err}
 use Rattle.ld_trees.specs.Term.{Term}
-use Rattle.ld_rules.specs.Environment.{Env}
 use Rattle.ld_terms.specs.declared.globals.Item.{Item}
 use Rattle.term_syntax.specs.declared.scope_fault.ScopeFault.{ScopeFault}
 use Rattle.term_syntax.specs.declared.scope_fault.ScopeFault.TheVariants as scope

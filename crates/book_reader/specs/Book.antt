@@ -1,5 +1,5 @@
 -- What a book is worth behind an environment: its text is read whole, and then its items enter one after another.
-use Rattle.std.specs.Prelude.{ℕ, suc, List, [], ◌∷◌, Result, Ok, Err}
+use Rattle.std.specs.Prelude.{◌≡◌, ℕ, suc, List, [], ◌∷◌, Result, Ok, Err}
 use Rattle.term_syntax.specs.Lex.{Text}
 use Rattle.term_syntax.specs.Input.{place}
 use Rattle.book_reader.specs.declared.source.Source.{Source}
@@ -7,6 +7,7 @@ use Rattle.ld_trees.specs.Term.{Term}
 use Rattle.ld_terms.specs.declared.globals.Item.{Item}
 use Rattle.book_reader.specs.Items.{ItemRefusal, item}
 use Rattle.term_syntax.specs.Reading.{Outcome}
+use Rattle.book_reader.specs.Grammar.{IsBookText}
 use Rattle.book_reader.specs.Reading.{read}
 
 -- why a book isn't accepted; items count from 0 in its text
@@ -32,3 +33,9 @@ enter_all units items (Err i) = Err (Syntax (place i))
 -- the environment of a book, or its refusal
 abbrev pub book_value : List (Item Term) → ℕ → Text → Result (List (Item Term)) BookRefusal
 book_value items units text = enter_all units items (read text)
+
+-- the text is a book by the grammar, the items of which make this environment behind those
+pub record IsEntered (items : List (Item Term)) (units : ℕ) (text : Text) (made : List (Item Term)) : Type 0 where
+  pub sources : List Source
+  pub book : IsBookText text sources
+  pub enters : enter units 0 items sources ≡ Ok made

@@ -23,11 +23,15 @@ abbrev pub name_of_label : Label → Option Text
 name_of_label (label.Plain x) = Some x
 name_of_label (label.Level k) = None
 
+-- the parameter of a binder
+abbrev pub parameter_of : Label → Surface → Parameter
+parameter_of x A = record { name = name_of_label x; ty = A }
+
 -- `AreParameters ts ps rest`: from the tokens `ts` on stand binders with the parameters `ps`, and then come the tokens `rest`
 pub data AreParameters : List Lexeme → List Parameter → List Lexeme → Type 0 where
   no_parameter : {ts : List Lexeme} → AreParameters ts [] ts
   more_parameters : {ts us rest : List Lexeme} {x : Label} {A : Surface} {ps : List Parameter}
-      → IsBinder max_nesting ts x A us → AreParameters us ps rest → AreParameters ts (record { name = name_of_label x; ty = A } ∷ ps) rest
+      → IsBinder max_nesting ts x A us → AreParameters us ps rest → AreParameters ts (parameter_of x A ∷ ps) rest
 
 pub data IsItem : List Lexeme → Source → List Lexeme → Type 0 where
   -- "def" name { binder } ":=" term ":" term ";"

@@ -1,13 +1,12 @@
 -- The check of one item behind an environment, with units of fuel.
-use Rattle.std.specs.Prelude.{ℕ, Bool, true, false, List, [], ◌∷◌, ◌++◌, map, length, Option, Some, None, is_some, Result, Ok, Err}
+use Rattle.std.specs.Prelude.{ℕ, Bool, true, false, List, [], ◌∷◌, ◌++◌, length, Option, Some, None, is_some, Result, Ok, Err}
 use Rattle.ld_trees.specs.Term.{Term}
 use Rattle.ld_terms.specs.Items.{item_named}
 use Rattle.ld_terms.specs.Names.{level_name}
 use Rattle.ld_terms.specs.declared.globals.Item.{Item}
 use Rattle.ld_terms.specs.declared.globals.Local.{Local}
 use Rattle.term_syntax.specs.Lex.{Text}
-use Rattle.term_syntax.specs.Printing.{Names}
-use Rattle.term_syntax.specs.Scoping.{Scoped, scope}
+use Rattle.term_syntax.specs.Scoping.{Resolved, scope}
 use Rattle.term_syntax.specs.declared.scope_fault.ScopeFault.{ScopeFault}
 use Rattle.term_syntax.specs.declared.surface.Surface.{Surface}
 use Rattle.term_text.specs.Scoped.{arities}
@@ -49,7 +48,7 @@ abbrev pub ◌>>◌ : {A B : Type 0} → Check A → Check B → Check B
 infixr 20 ◌>>◌
 infixl 20 ◌>>=◌
 -- names are resolved at no cost
-abbrev pub scoped : {A : Type 0} → Scoped A → Check A
+abbrev pub scoped : {A : Type 0} → Resolved A → Check A
 scoped (Ok a) n = Ok (a, n)
 scoped (Err e) n = Err (Scope e)
 

@@ -1,5 +1,6 @@
-pub mod Reading
 pub mod Grammar
+pub mod Reading
+pub mod Laws
 pub mod Items
 pub mod Book
 pub mod Answers

@@ -1,8 +1,7 @@
 -- Names that a book's text gives.
-use Rattle.std.specs.Prelude.{List, All, Option, Some, None}
+use Rattle.std.specs.Prelude.{All, Option, Some, None}
 use Rattle.ld_terms.specs.Names.{IsTextName}
 use Rattle.term_syntax.specs.Lex.{Text}
-use Rattle.book_reader.specs.declared.source.Parameter.{Parameter}
 use Rattle.book_reader.specs.declared.source.Source.{Source}
 
 -- a name of the texts, where there is one

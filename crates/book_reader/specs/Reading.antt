@@ -2,17 +2,17 @@
 --
 -- Each definition follows one line of the grammar in Grammar.antt and takes a token wherever one continues what was taken before, so
 -- that a refusal stands at the first token that doesn't.
-use Rattle.std.specs.Prelude.{◌≡◌, ℕ, zero, suc, if◌then◌else◌, List, [], ◌∷◌, ◌++◌, length, Option, Some, None, Result, Ok, Err}
+use Rattle.std.specs.Prelude.{ℕ, zero, suc, if◌then◌else◌, List, [], ◌∷◌, ◌++◌, length, Some, None}
 use Rattle.term_syntax.specs.declared.kind.Kind.{Kind}
-use Rattle.term_syntax.specs.declared.kind.Kind.TheVariants.{Name, Call, Level, Def, Prim, Open, Close, Assign, Colon, Semi}
-use Rattle.term_syntax.specs.declared.fault.ReadFault.{ReadFault}
-use Rattle.term_syntax.specs.declared.fault.ReadFault.TheVariants.{Syntax, Memory}
+use Rattle.term_syntax.specs.declared.kind.Kind.TheVariants.{Name, Call, Def, Prim, Open, Assign, Colon, Semi}
+use Rattle.term_syntax.specs.Kinds.{is_kind}
 use Rattle.term_syntax.specs.Lex.{Text}
-use Rattle.term_syntax.specs.Input.{Input, kind, place, input_at}
-use Rattle.term_syntax.specs.Reading.{Outcome, Parser, ◌>>=◌, ◌>>◌, pure, refuse, at_end, sees, expect, take_token, term}
+use Rattle.term_syntax.specs.Input.{kind, input_at}
+use Rattle.term_syntax.specs.Reading.{Outcome, Parser, ◌>>=◌, ◌>>◌, pure, refuse, at_end, peek, expect, take_token, binder, term}
 use Rattle.term_syntax.specs.Grammar.{max_nesting}
 use Rattle.book_reader.specs.declared.source.Parameter.{Parameter}
 use Rattle.book_reader.specs.declared.source.Source.{Source}
+use Rattle.book_reader.specs.Grammar.{parameter_of}
 
 -- The name after `def` or `prim`. It isn't read as a constant, even where `(` follows directly.
 abbrev pub name_by : Kind → Parser Text
@@ -23,31 +23,18 @@ name_by _ = refuse
 unfoldable pub item_name : Parser Text
 item_name = λ i. name_by (kind i) i
 
--- name | level, of which a level name gives a parameter no name of its own. Where `(` follows a name directly, the name is fine and
--- the `(` isn't.
-abbrev pub parameter_name_by : Kind → Parser (Option Text)
-parameter_name_by Name = take_token >>= (λ t. pure (Some t))
-parameter_name_by Level = take_token >> pure None
-parameter_name_by Call = take_token >> refuse
-parameter_name_by _ = refuse
-
-unfoldable pub parameter_name : Parser (Option Text)
-parameter_name = λ i. parameter_name_by (kind i) i
-
 -- "(" ( name | level ) ":" term ")"
 unfoldable pub parameter : Parser Parameter
 parameter = do
-  expect Open
-  name ← parameter_name
-  expect Colon
-  ty ← term max_nesting
-  expect Close
-  pure (record { name = name; ty = ty })
+  b ← binder (term max_nesting)
+  pure (parameter_of b.0 b.1)
 
 -- { binder }, behind the parameters that were found. The number bounds the turns, and each turn takes a token.
 unfoldable pub parameters_from : ℕ → List Parameter → Parser (List Parameter)
 parameters_from zero found = pure found
-parameters_from (suc n) found = λ i. if sees Open i then (parameter >>= (λ p. parameters_from n (found ++ p ∷ []))) i else pure found i
+parameters_from (suc n) found = do
+  kind ← peek
+  if is_kind kind Open then (do p ← parameter; parameters_from n (found ++ p ∷ [])) else pure found
 
 unfoldable pub parameters : Parser (List Parameter)
 parameters = λ i. parameters_from (suc (length i.ahead)) [] i
@@ -76,15 +63,18 @@ primitive = do
   expect Semi
   pure (record { name = name; params = params; ty = ty; body = None })
 
+-- an item, by its first token
 unfoldable pub item : Parser Source
-item = λ i. if sees Def i then definition i else primitive i
+item = do
+  kind ← peek
+  if is_kind kind Def then definition else primitive
 
 -- { item }, behind the items that were found. The number bounds the turns, and each turn takes a token.
 unfoldable pub items_from : ℕ → List Source → Parser (List Source)
-items_from zero found = pure found
+items_from zero found = refuse
 items_from (suc n) found = do
   over ← at_end
-  if over then pure found else (item >>= (λ s. items_from n (found ++ s ∷ [])))
+  if over then pure found else (do s ← item; items_from n (found ++ s ∷ []))
 
 unfoldable pub items : Parser (List Source)
 items = λ i. items_from (suc (length i.ahead)) [] i
@@ -92,16 +82,3 @@ items = λ i. items_from (suc (length i.ahead)) [] i
 -- the items of a text
 unfoldable pub read : Text → Outcome (List Source)
 read text = items (input_at text 0)
-
--- ---- what a function that reads ensures: the outcome, with what is left, unless memory runs out
-
-abbrev pub Reads : {A : Type 0} → Outcome A → Result A ReadFault → Input → Type 0
-Reads outcome (Ok a) new = outcome ≡ Ok (a, new)
-Reads outcome (Err Memory) new = Unit {0}
-Reads outcome (Err (Syntax at)) new = (i : Input) × (outcome ≡ Err i) × (at ≡ place i)
-
--- what a function that reads a whole text ensures
-abbrev pub Gives : {A : Type 0} → Outcome A → Result A ReadFault → Type 0
-Gives outcome (Ok a) = (i : Input) × (outcome ≡ Ok (a, i))
-Gives outcome (Err Memory) = Unit {0}
-Gives outcome (Err (Syntax at)) = (i : Input) × (outcome ≡ Err i) × (at ≡ place i)

@@ -1,4 +1,4 @@
-ghost use Rattle.std.specs.Prelude.{◌≡◌, [], All, IfOk, List as Listed};
+ghost use Rattle.std.specs.Prelude.{◌≡◌, ℕ, [], All, IfOk, Err, List as Listed};
 ghost use Rattle.ld_trees.specs.Term.{Term};
 ghost use Rattle.ld_rules.specs.Legality.{IsLegalEnvironment};
 ghost use Rattle.ld_terms.specs.Views.{Keeps};
@@ -7,9 +7,14 @@ ghost use Rattle.conversion.specs.Globals.{env_of, IsItemOf};
 ghost use Rattle.meta_context.specs.Plain.{plain_items};
 ghost use Rattle.book_reader.specs.Answers.{IsBook};
 ghost use Rattle.book_reader.specs.Book as spec;
+ghost use Rattle.book_reader.specs.Book.{IsEntered};
 ghost use Rattle.book_reader.specs.Entering.{IsStep, fault_at, fault_of};
+ghost use Rattle.book_reader.specs.Grammar.{IsBookText};
 ghost use Rattle.book_reader.specs.Items.{item};
+ghost use Rattle.book_reader.specs.Laws.{IsRefusedAt};
 ghost use Rattle.book_reader.specs.Named.{HasNames};
+ghost use Rattle.book_reader.specs.declared.fault.BookFault.TheVariants.{Syntax};
+ghost use Rattle.book_reader.specs.declared.source.Source.{Source as Read};
 
 use crate::checked::ItemFault;
 use crate::fault::BookFault;
@@ -39,11 +44,32 @@ pub fn read_book<T: Terms>(
     text: &[u8],
 ) -> Result<Env<T::Handle>, BookFault<T::Handle>>
     requires { All (IsItemOf (T.holds terms.old)) env.now }
+    // What is accepted is a book by the grammar, the items of which made the environment.
+    ensures found { IfOk result (λ e. IsEntered (plain_items (T.means terms.old) env.now) units text.now (plain_items (T.means terms.new) e)) }
+    // Where the text is a book by the grammar, its items enter one after another, or the first one that is refused is answered.
+    ensures only { (ss : Listed Read) → IsBookText text.now ss → IsBook (T.holds terms.new) (T.means terms.new) (spec.enter units 0 (plain_items (T.means terms.old) env.now) ss) result }
+    // At the place of a refused text no book goes on.
+    ensures refused { (place : ℕ) → result ≡ Err (Syntax place) → IsRefusedAt text.now place }
     // The environment or the refusal is that of the definition.
     ensures exact { IsBook (T.holds terms.new) (T.means terms.new) (spec.book_value (plain_items (T.means terms.old) env.now) units text.now) result }
     // A book behind a legal environment makes a legal one.
     ensures legal { IsLegalEnvironment (env_of (T.means terms.old) env.now []) → IfOk result (λ e. IsLegalEnvironment (env_of (T.means terms.new) e [])) }
     // Older handles mean what they meant.
+    ensures kept { Keeps (T.holds terms.old) (T.means terms.old) (T.holds terms.new) (T.means terms.new) }
+{
+    enter_text(alloc, terms, env, units, text)
+}
+
+/// The environment behind which the items of a text have entered, each with so many units.
+fn enter_text<T: Terms>(
+    alloc: Global,
+    terms: &mut T,
+    env: &Env<T::Handle>,
+    units: u64,
+    text: &[u8],
+) -> Result<Env<T::Handle>, BookFault<T::Handle>>
+    requires { All (IsItemOf (T.holds terms.old)) env.now }
+    ensures exact { IsBook (T.holds terms.new) (T.means terms.new) (spec.book_value (plain_items (T.means terms.old) env.now) units text.now) result }
     ensures kept { Keeps (T.holds terms.old) (T.means terms.old) (T.holds terms.new) (T.means terms.new) }
 {
     let sources = match read_items(alloc, text) {

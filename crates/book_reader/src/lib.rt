@@ -5,14 +5,14 @@ mod book;
 mod checked;
 mod fault;
 mod items;
-mod lex;
+mod laws;
 mod parameters;
 mod read;
-mod reader;
 mod source;
 
 pub use book::read_book;
 pub use fault::BookFault;
+pub use laws::{items_are_unique, nothing_continues};
 pub use source::{Parameter, Source};
 
 #[cfg(test)]

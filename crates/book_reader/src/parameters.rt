@@ -1,14 +1,13 @@
 ghost use Rattle.std.specs.Prelude.{◌≡◌, ◌++◌, ◌∷◌, [], ◌<◌, IfOk, length};
-ghost use Rattle.ld_terms.specs.Names.{level_name};
 ghost use Rattle.term_syntax.specs.ReadsBack.{IsContext};
 ghost use Rattle.meta_context.specs.Entered.{names_of};
 ghost use Rattle.book_reader.specs.Items as spec;
 ghost use Rattle.book_reader.specs.Named.{IsNamed};
 
-use itoa::Buffer;
 use ld_terms::{List, Local, Name};
 use std::alloc::{AllocError, Global};
 use std::marker::Model;
+use term_text::level_name;
 
 /// How many parameters an item has at most.
 const MOST: usize = 999_998_999;
@@ -101,15 +100,4 @@ fn entry_name(alloc: Global, level: usize, name: &Option<Name>) -> Result<Name, 
         Some(name) => name.copy(alloc),
         None => level_name(alloc, level as u64),
     }
-}
-
-/// The level name of a level.
-fn level_name(alloc: Global, level: u64) -> Result<Name, AllocError>
-    ensures { IfOk result (λ n. n ≡ level_name level) }
-{
-    let mut buffer = Buffer::new();
-    let mut text = Vec::new(alloc);
-    text.extend_from_slice(b"%")?;
-    text.extend_from_slice(buffer.format(level).as_bytes())?;
-    Name::of(alloc, &text)
 }

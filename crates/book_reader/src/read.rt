@@ -5,36 +5,42 @@
 //! ```
 
 ghost use Rattle.std.specs.Prelude.{◌≡◌, All, IfOk};
-ghost use Rattle.term_syntax.specs.Input.{place};
-ghost use Rattle.book_reader.specs.Named.{HasNames, IsNamed};
+ghost use Rattle.term_syntax.specs.Reading.{Gives, Reads};
+ghost use Rattle.book_reader.specs.Grammar as grammar;
+ghost use Rattle.book_reader.specs.Named.{HasNames};
 ghost use Rattle.book_reader.specs.Reading as spec;
-ghost use Rattle.book_reader.specs.Reading.{Gives, Reads};
 
-use crate::reader::Reader;
 use crate::source::{Parameter, Source};
-use ld_terms::List;
+use ld_terms::{List, Name};
 use std::alloc::Global;
 use term_syntax::Kind;
-use term_text::ReadFault;
+use term_text::{Cursor, Label, ReadFault, Surface};
 
 /// The items of a text.
-#[tactic(auto, unfolding(crate::specs::Reading::read))]
 pub fn read_items(alloc: Global, text: &[u8]) -> Result<List<Source>, ReadFault>
-    ensures read { Gives (spec.read text.now) result }
+    // Their names are names of the texts.
     ensures named { IfOk result (All HasNames) }
+    // The items, or the place of the refusal, are those of the reading from left to right.
+    ensures exact { Gives (λ ss _. ss) (spec.read text.now) result }
 {
-    let mut reader = Reader::new(text);
-    items(alloc, &mut reader)
+    read_all(alloc, text)
+}
+
+#[tactic(auto, unfolding(crate::specs::Reading::read))]
+fn read_all(alloc: Global, text: &[u8]) -> Result<List<Source>, ReadFault>
+    ensures { Gives (λ ss _. ss) (spec.read text.now) result }
+{
+    let mut cursor = Cursor::new(text);
+    items(alloc, &mut cursor)
 }
 
 /// `{ item }`, up to the text's end.
-fn items(alloc: Global, reader: &mut Reader<'_>) -> Result<List<Source>, ReadFault>
-    ensures read { Reads (spec.items reader.old) result reader.new }
-    ensures named { IfOk result (All HasNames) }
+fn items(alloc: Global, cursor: &mut Cursor<'_>) -> Result<List<Source>, ReadFault>
+    ensures { Reads (spec.items cursor.old) result cursor.new }
 {
     let mut found = Vec::new(alloc);
-    'more: while !reader.is_over() {
-        let next = item(alloc, reader)?;
+    'more: while !cursor.is_over() {
+        let next = item(alloc, cursor)?;
         found.push(next)?;
     }
     Ok(List::of(found))
@@ -42,31 +48,29 @@ fn items(alloc: Global, reader: &mut Reader<'_>) -> Result<List<Source>, ReadFau
 
 /// An item.
 #[tactic(auto, unfolding(crate::specs::Reading::item))]
-fn item(alloc: Global, reader: &mut Reader<'_>) -> Result<Source, ReadFault>
-    ensures read { Reads (spec.item reader.old) result reader.new }
-    ensures named { IfOk result HasNames }
+fn item(alloc: Global, cursor: &mut Cursor<'_>) -> Result<Source, ReadFault>
+    ensures { Reads (spec.item cursor.old) result cursor.new }
 {
-    if reader.sees(Kind::Def) {
-        definition(alloc, reader)
+    if cursor.sees(Kind::Def) {
+        definition(alloc, cursor)
     } else {
-        primitive(alloc, reader)
+        primitive(alloc, cursor)
     }
 }
 
 /// `"def" name { binder } ":=" term ":" term ";"`.
 #[tactic(auto, unfolding(crate::specs::Reading::definition))]
-fn definition(alloc: Global, reader: &mut Reader<'_>) -> Result<Source, ReadFault>
-    ensures read { Reads (spec.definition reader.old) result reader.new }
-    ensures named { IfOk result HasNames }
+fn definition(alloc: Global, cursor: &mut Cursor<'_>) -> Result<Source, ReadFault>
+    ensures { Reads (spec.definition cursor.old) result cursor.new }
 {
-    reader.expect(Kind::Def)?;
-    let name = reader.item_name(alloc)?;
-    let params = parameters(alloc, reader)?;
-    reader.expect(Kind::Assign)?;
-    let body = reader.term(alloc)?;
-    reader.expect(Kind::Colon)?;
-    let ty = reader.term(alloc)?;
-    reader.expect(Kind::Semi)?;
+    cursor.expect(Kind::Def)?;
+    let name = item_name(alloc, cursor)?;
+    let params = parameters(alloc, cursor)?;
+    cursor.expect(Kind::Assign)?;
+    let body = cursor.term(alloc)?;
+    cursor.expect(Kind::Colon)?;
+    let ty = cursor.term(alloc)?;
+    cursor.expect(Kind::Semi)?;
     Ok(Source {
         name,
         params,
@@ -77,16 +81,15 @@ fn definition(alloc: Global, reader: &mut Reader<'_>) -> Result<Source, ReadFaul
 
 /// `"prim" name { binder } ":" term ";"`.
 #[tactic(auto, unfolding(crate::specs::Reading::primitive))]
-fn primitive(alloc: Global, reader: &mut Reader<'_>) -> Result<Source, ReadFault>
-    ensures read { Reads (spec.primitive reader.old) result reader.new }
-    ensures named { IfOk result HasNames }
+fn primitive(alloc: Global, cursor: &mut Cursor<'_>) -> Result<Source, ReadFault>
+    ensures { Reads (spec.primitive cursor.old) result cursor.new }
 {
-    reader.expect(Kind::Prim)?;
-    let name = reader.item_name(alloc)?;
-    let params = parameters(alloc, reader)?;
-    reader.expect(Kind::Colon)?;
-    let ty = reader.term(alloc)?;
-    reader.expect(Kind::Semi)?;
+    cursor.expect(Kind::Prim)?;
+    let name = item_name(alloc, cursor)?;
+    let params = parameters(alloc, cursor)?;
+    cursor.expect(Kind::Colon)?;
+    let ty = cursor.term(alloc)?;
+    cursor.expect(Kind::Semi)?;
     Ok(Source {
         name,
         params,
@@ -95,14 +98,24 @@ fn primitive(alloc: Global, reader: &mut Reader<'_>) -> Result<Source, ReadFault
     })
 }
 
+/// The name of an item, which isn't read as a constant.
+#[tactic(auto, unfolding(crate::specs::Reading::item_name))]
+fn item_name(alloc: Global, cursor: &mut Cursor<'_>) -> Result<Name, ReadFault>
+    ensures { Reads (spec.item_name cursor.old) result cursor.new }
+{
+    match cursor.kind() {
+        Kind::Name | Kind::Call => Ok(Name::of(alloc, cursor.take())?),
+        _ => Err(cursor.refuse()),
+    }
+}
+
 /// `{ binder }`.
-fn parameters(alloc: Global, reader: &mut Reader<'_>) -> Result<List<Parameter>, ReadFault>
-    ensures read { Reads (spec.parameters reader.old) result reader.new }
-    ensures named { IfOk result (All (λ p. IsNamed p.name)) }
+fn parameters(alloc: Global, cursor: &mut Cursor<'_>) -> Result<List<Parameter>, ReadFault>
+    ensures { Reads (spec.parameters cursor.old) result cursor.new }
 {
     let mut found = Vec::new(alloc);
-    'more: while reader.sees(Kind::Open) {
-        let next = parameter(alloc, reader)?;
+    'more: while cursor.sees(Kind::Open) {
+        let next = parameter(alloc, cursor)?;
         found.push(next)?;
     }
     Ok(List::of(found))
@@ -110,14 +123,20 @@ fn parameters(alloc: Global, reader: &mut Reader<'_>) -> Result<List<Parameter>,
 
 /// `"(" ( name | level ) ":" term ")"`.
 #[tactic(auto, unfolding(crate::specs::Reading::parameter))]
-fn parameter(alloc: Global, reader: &mut Reader<'_>) -> Result<Parameter, ReadFault>
-    ensures read { Reads (spec.parameter reader.old) result reader.new }
-    ensures named { IfOk result (λ p. IsNamed p.name) }
+fn parameter(alloc: Global, cursor: &mut Cursor<'_>) -> Result<Parameter, ReadFault>
+    ensures { Reads (spec.parameter cursor.old) result cursor.new }
 {
-    reader.expect(Kind::Open)?;
-    let name = reader.label(alloc)?;
-    reader.expect(Kind::Colon)?;
-    let ty = reader.term(alloc)?;
-    reader.expect(Kind::Close)?;
-    Ok(Parameter { name, ty })
+    let (label, ty) = cursor.binder(alloc)?;
+    Ok(parameter_of(label, ty))
+}
+
+/// The parameter of a binder.
+fn parameter_of(label: Label, ty: Surface) -> Parameter
+    ensures { result ≡ grammar.parameter_of label ty }
+{
+    let name = match label {
+        Label::Plain(name) => Some(name),
+        Label::Level(_) => None,
+    };
+    Parameter { name, ty }
 }

@@ -1,5 +1,3 @@
-pub mod Places
-pub mod Terms
 pub mod Sound
 pub mod Complete
 pub mod Refusals

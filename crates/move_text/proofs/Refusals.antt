@@ -1,14 +1,14 @@
 -- No move goes on with the token at which a text is refused.
-use Rattle.std.proofs.Common.{◌≡◌, Bool, true, false, if◌then◌else◌, List, [], ◌∷◌, ◌++◌, Ok, Err, refl, ap, sym, ◌∙◌, subst}
+use Rattle.std.proofs.Common.{◌≡◌, Bool, true, false, if◌then◌else◌, List, [], ◌∷◌, ◌++◌, Err, refl, ap, sym, ◌∙◌}
 use Rattle.std.specs.Str.{bytes_eq}
 use Rattle.term_syntax.specs.declared.kind.Kind.{Kind}
 use Rattle.term_syntax.specs.declared.kind.Kind.TheVariants as k
 use Rattle.term_syntax.specs.declared.surface.Surface.{Surface}
 use Rattle.term_syntax.specs.Lex.{Text, Lexeme}
-use Rattle.term_syntax.specs.Input.{Input, kind_of, spelling_of, input_at, is_nil}
-use Rattle.term_syntax.specs.Reading.{Parser, and_then, at_end, pure, refuse, ◌>>=◌, term}
-use Rattle.term_syntax.proofs.Progress.{ok_inj}
-use Rattle.term_syntax.proofs.Local.{Head, head_after, err_inj, OkAgain, ErrAgain, Local, local_then, local_pure, local_refuse, local_by, local_take, local_expect}
+use Rattle.term_syntax.specs.Input.{Input, kind_of, spelling_of, input_at}
+use Rattle.term_syntax.specs.Reading.{Parser, at_end, pure, refuse, ◌>>=◌, term}
+use Rattle.term_syntax.proofs.Complete.{Runs, runs_then, pure_runs, over_yes}
+use Rattle.term_syntax.proofs.Local.{Head, head_after, ErrAgain, Local, local_then, local_pure, local_refuse, local_by, local_take, local_expect, local_over}
 use Rattle.term_syntax.proofs.Whole.{local_term}
 use Rattle.move_text.specs.declared.moves.Move.{Move}
 use Rattle.move_text.specs.declared.moves.Move.TheVariants as m
@@ -67,14 +67,14 @@ AllLocal (f ∷ fs) = Local f.1 × AllLocal fs
 local_named : (c : Text → Move) → Local (name >>= (λ x. pure (c x)))
 local_named c = local_then _ local_name (λ x. local_pure (c x))
 
-local_over : (c : Surface → Move) → Local (term 512 >>= (λ t. pure (c t)))
-local_over c = local_then _ (local_term 512) (λ t. local_pure (c t))
+local_with_term : (c : Surface → Move) → Local (term 512 >>= (λ t. pure (c t)))
+local_with_term c = local_then _ (local_term 512) (λ t. local_pure (c t))
 
 local_having : Local having
-local_having = local_then _ local_name (λ x. local_then _ (local_expect k.Colon (λ h. cc)) (λ _. local_over (m.Have x)))
+local_having = local_then _ local_name (λ x. local_then _ (local_expect k.Colon (λ h. cc)) (λ _. local_with_term (m.Have x)))
 
 all_local : AllLocal forms
-all_local = (local_named m.Intro, (local_over m.Apply, (local_over m.Exact, (local_over m.Refine, (local_having, (local_pure m.Assumption, (local_over m.Change, (local_named m.Unfold, tt))))))))
+all_local = (local_named m.Intro, (local_with_term m.Apply, (local_with_term m.Exact, (local_with_term m.Refine, (local_having, (local_pure m.Assumption, (local_with_term m.Change, (local_named m.Unfold, tt))))))))
 
 local_form_of : (z : Text) (fs : List (Text × Parser Move)) → AllLocal fs → Local (form_of z fs)
 local_form_of z [] h = local_refuse
@@ -89,37 +89,14 @@ local_form = local_by_word (λ z. form_of z forms) (λ z. local_form_of z forms 
 abbrev ending : Move → Parser Move
 ending move = at_end >>= (λ over. if over then pure move else refuse)
 
-some_head : (s t : List Lexeme) → Head s t → (is_nil s ≡ false) × (is_nil t ≡ false)
-some_head s t (l, s', t', es, et) = (ap is_nil es, ap is_nil et)
-
-ending_stops : (move : Move) (j : Input) → is_nil j.ahead ≡ false → ending move j ≡ Err j
-ending_stops move j e = rw e refl
-
-ending_ends : (move : Move) (j : Input) → is_nil j.ahead ≡ true → ending move j ≡ Ok (move, j)
-ending_ends move j e = rw e refl
-
-ending_ok : (move : Move) (i : Input) (a : Move) (r : Input) → ending move i ≡ Ok (a, r) → (b : Bool) → is_nil i.ahead ≡ b → OkAgain (ending move) i a r
-ending_ok move i a r e false eb = let x = sym (ending_stops move i eb) ∙ e in cc x
-ending_ok move i a r e true eb = subst (λ (p : Move × Input). OkAgain (ending move) i p.0 p.1) (ok_inj (move, i) (a, r) (sym (ending_ends move i eb) ∙ e))
-    ([], refl, λ j tail h ej. let x = sym eb ∙ (some_head tail i.ahead h).1 in cc x)
-
-ending_err : (move : Move) (i r : Input) → ending move i ≡ Err r → (b : Bool) → is_nil i.ahead ≡ b → ErrAgain (ending move) i r
-ending_err move i r e true eb = let x = sym (ending_ends move i eb) ∙ e in cc x
-ending_err move i r e false eb = subst (λ r. ErrAgain (ending move) i r) (err_inj {A = Move} i r (sym (ending_stops move i eb) ∙ e))
-    ([], refl, λ j tail h ej. (j, ending_stops move j (ap is_nil ej ∙ (some_head tail i.ahead h).0)))
-
-local_ending : (move : Move) → Local (ending move)
-local_ending move = record { ok = λ i a r e. ending_ok move i a r e (is_nil i.ahead) refl; err = λ i r e. ending_err move i r e (is_nil i.ahead) refl }
-
 local_finish : Local finish
 unfolding finish
-local_finish = local_then ending local_form local_ending
+local_finish = local_then ending local_form (λ move. local_over (local_pure move) local_refuse)
 
-pub finish_runs : (ts : List Lexeme) (move : Move) → IsMove ts move [] → (i : Input) → i.ahead ≡ ts → (j : Input) × (finish i ≡ Ok (move, j))
+-- all tokens are a move
+pub finish_runs : {ts : List Lexeme} {move : Move} → IsMove ts move [] → Runs finish ts move []
 unfolding finish
-finish_runs ts move h i is =
-    let x = (move_runs h).run i is in
-    (x.0, ap (λ o. and_then o ending) x.1 ∙ ending_ends move x.0 (ap is_nil x.2))
+finish_runs {move = move} is = runs_then ending (move_runs is) (over_yes refuse refl (pure_runs move []))
 
 refused_again : (text : Text) (i : Input) → read text ≡ Err i → ErrAgain finish (input_at text 0) i
 unfolding read
@@ -133,7 +110,7 @@ nothing_continues text i e =
       λ l rest tail is move h.
           let j : Input = record { at = 0; end = 0; ahead = x.0 ++ l ∷ tail } in
           let no = x.2 j (l ∷ tail) (l, tail, rest, refl, is) refl in
-          let yes = finish_runs (x.0 ++ l ∷ tail) move h j refl in
+          let yes = (finish_runs h).run j refl in
           let clash = sym yes.1 ∙ no.1 in
           cc clash,
     )

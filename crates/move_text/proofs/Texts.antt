@@ -1,37 +1,38 @@
 -- Reading a whole text, against the grammar.
-use Rattle.std.proofs.Common.{◌≡◌, Bool, true, false, if◌then◌else◌, List, [], ◌∷◌, Result, Ok, Err, refl, ap, sym, ◌∙◌, subst, IfOk}
+use Rattle.std.proofs.Common.{◌≡◌, inl, inr, List, [], ◌∷◌, All, Result, Ok, Err, refl, ap, sym, ◌∙◌, arith, subst, IfOk}
 use Rattle.term_syntax.specs.declared.fault.ReadFault.{ReadFault}
 use Rattle.term_syntax.specs.declared.fault.ReadFault.TheVariants as fault
-use Rattle.term_syntax.specs.Lex.{Text, Lexeme, lexemes}
-use Rattle.term_syntax.specs.Input.{Input, input_at, is_nil}
-use Rattle.term_syntax.specs.Reading.{Outcome, at_end, pure, refuse, ◌>>=◌, IsRead, Gives}
+use Rattle.term_syntax.specs.Lex.{Text, Lexeme}
+use Rattle.term_syntax.specs.Input.{Input, input_at}
+use Rattle.term_syntax.specs.Reading.{Outcome, IsRead, Gives}
 use Rattle.term_syntax.specs.Grammar.{IsRight}
-use Rattle.term_syntax.proofs.Progress.{bind_ok, ok_inj}
+use Rattle.term_syntax.proofs.NamedTokens.{IsNamedToken, lexemes_named}
+use Rattle.term_syntax.proofs.Progress.{ok_inj}
+use Rattle.term_syntax.proofs.Sound.{Means, then_means, pure_means, refuse_means, over_means, weaken, done}
 use Rattle.move_text.specs.declared.moves.Move.{Move}
+use Rattle.move_text.specs.Grammar as grammar
 use Rattle.move_text.specs.Grammar.{IsMove, IsMoveText}
-use Rattle.move_text.specs.Reading.{form, finish, read}
+use Rattle.move_text.specs.Named.{HasTextName}
+use Rattle.move_text.specs.Reading.{finish, read}
 use Rattle.move_text.specs.Laws.{MovesAreUnique}
 use Rattle.move_text.proofs.Sound.{form_sound}
 use Rattle.move_text.proofs.Refusals.{finish_runs}
 
-nil_is : (ls : List Lexeme) → is_nil ls ≡ true → ls ≡ []
-nil_is [] e = refl
-nil_is (l ∷ ls) e = cc
-
-last_ok : (m : Move) (i : Input) (n : Move) (j : Input) (b : Bool) → is_nil i.ahead ≡ b → (if b then pure m else refuse) i ≡ Ok (n, j) → (i.ahead ≡ []) × (m ≡ n)
-last_ok m i n j true e h = (nil_is i.ahead e, ap (λ (p : Move × Input). p.0) (ok_inj (m, i) (n, j) h))
-last_ok m i n j false e h = cc h
+finish_sound : Means finish (λ i m j. IsMove i.ahead m [])
+unfolding finish
+finish_sound = weaken _ (then_means form_sound (λ m. over_means {Q = λ _ _ _. ⊥} (pure_means m) refuse_means))
+    (λ i m j (n, i1, is, ending). elim ending [
+      | inl (none, same) ↦ done (λ m _. IsMove i.ahead m []) n i1 m j same (subst (λ ls. IsMove i.ahead n ls) none is)
+      | inr never ↦ absurd never
+    ])
 
 read_sound : (text : Text) (m : Move) (j : Input) → read text ≡ Ok (m, j) → IsMoveText text m
-unfolding read finish
-read_sound text m j e =
-    let x = bind_ok (form (input_at text 0)) (λ m. at_end >>= (λ over. if over then pure m else refuse)) (m, j) e in
-    let y = last_ok x.0.0 x.0.1 m j (is_nil x.0.1.ahead) refl x.2 in
-    subst (λ n. IsMoveText text n) y.1 (subst (λ ls. IsMove (lexemes 0 text) x.0.0 ls) y.0 (form_sound.run (input_at text 0) x.0.0 x.0.1 x.1))
+unfolding read
+read_sound text m j e = finish_sound.run (input_at text 0) m j e
 
 read_complete : (text : Text) (m : Move) → IsMoveText text m → (j : Input) × (read text ≡ Ok (m, j))
 unfolding read
-read_complete text m h = finish_runs (lexemes 0 text) m h (input_at text 0) refl
+read_complete text m h = let x = (finish_runs h).run (input_at text 0) refl in (x.0, x.1)
 
 gives_ok : (o : Outcome Move) (m : Move) → IsRead (λ m _. m) o m → (j : Input) × (o ≡ Ok (m, j))
 gives_ok (Ok p) m e = (p.1, ap (λ (n : Move). Ok (n, p.1)) (sym e))
@@ -40,6 +41,20 @@ gives_ok (Err e) m h = absurd h
 pub found : (text : Text) (r : Result Move ReadFault) → Gives (λ m _. m) (read text) r → IfOk r (λ m. IsMoveText text m)
 found text (Ok m) h = let x = gives_ok (read text) m h in read_sound text m x.0 x.1
 found text (Err e) h = tt
+
+move_named : {ts rest : List Lexeme} {m : Move} → IsMove ts m rest → All IsNamedToken ts → HasTextName m
+move_named (grammar.intro {n = n} is e) h = h 1 n (omega arith) (rw e tt)
+move_named (grammar.apply is t) h = tt
+move_named (grammar.exact is t) h = tt
+move_named (grammar.refine is t) h = tt
+move_named (grammar.have {n = n} is e ec t) h = h 1 n (omega arith) (rw e tt)
+move_named (grammar.assumption is) h = tt
+move_named (grammar.change is t) h = tt
+move_named (grammar.«unfold» is e) h = tt
+
+pub named : (text : Text) (r : Result Move ReadFault) → Gives (λ m _. m) (read text) r → IfOk r HasTextName
+named text (Ok m) h = let x = gives_ok (read text) m h in move_named (read_sound text m x.0 x.1) (lexemes_named text)
+named text (Err e) h = tt
 
 pub only : (text : Text) (r : Result Move ReadFault) → Gives (λ m _. m) (read text) r → (m : Move) → IsMoveText text m → IsRight r (λ n. m ≡ n)
 only text (Ok n) h m is =

@@ -1,4 +1,4 @@
 pub mod Grammar
+pub mod Named
 pub mod Reading
 pub mod Laws
-pub mod Cursor

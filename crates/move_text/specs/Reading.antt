@@ -2,15 +2,13 @@
 --
 -- Each form follows its part of the grammar in Grammar.antt and takes a token wherever one continues what was taken before, so that a
 -- refusal stands at the first token that doesn't.
-use Rattle.std.specs.Prelude.{◌≡◌, if◌then◌else◌, List, [], ◌∷◌, Result, Ok, Err, codes}
+use Rattle.std.specs.Prelude.{if◌then◌else◌, List, [], ◌∷◌, codes}
 use Rattle.std.specs.Str.{bytes_eq}
 use Rattle.term_syntax.specs.declared.kind.Kind.{Kind}
 use Rattle.term_syntax.specs.declared.kind.Kind.TheVariants.{Name, Call, Colon}
-use Rattle.term_syntax.specs.declared.fault.ReadFault.{ReadFault}
-use Rattle.term_syntax.specs.declared.fault.ReadFault.TheVariants.{Syntax, Memory}
 use Rattle.term_syntax.specs.declared.surface.Surface.{Surface}
 use Rattle.term_syntax.specs.Lex.{Text}
-use Rattle.term_syntax.specs.Input.{Input, kind, spelling, place, input_at}
+use Rattle.term_syntax.specs.Input.{Input, kind, spelling, input_at}
 use Rattle.term_syntax.specs.Reading.{Outcome, Parser, ◌>>=◌, ◌>>◌, pure, refuse, at_end, expect, take_token, term}
 use Rattle.term_syntax.specs.Grammar.{max_nesting}
 use Rattle.move_text.specs.declared.moves.Move.{Move}
@@ -83,10 +81,3 @@ finish = do
 -- the move that the text is
 unfoldable pub read : Text → Outcome Move
 read text = finish (input_at text 0)
-
--- ---- what a function that reads ensures: the outcome, with what is left, unless memory runs out
-
-abbrev pub Reads : {A : Type 0} → Outcome A → Result A ReadFault → Input → Type 0
-Reads outcome (Ok a) new = outcome ≡ Ok (a, new)
-Reads outcome (Err Memory) new = Unit {0}
-Reads outcome (Err (Syntax at)) new = (i : Input) × (outcome ≡ Err i) × (at ≡ place i)

@@ -1,13 +1,12 @@
 //! The texts of moves: the steps of a proof that a request may ask for.
 #![tactic(auto)]
 
-mod cursor;
 mod laws;
-mod lex;
 mod moves;
 mod read;
 #[cfg(test)]
 mod tests;
+mod words;
 
 pub use laws::{moves_are_unique, moves_compute, nothing_continues, refusals_compute};
 pub use moves::Move;

@@ -7,18 +7,18 @@
 
 ghost use Rattle.std.specs.Prelude.{◌≡◌, IfOk};
 ghost use Rattle.std.specs.Str.{bytes_eq};
-ghost use Rattle.term_syntax.specs.Reading.{Gives};
+ghost use Rattle.term_syntax.specs.Reading.{Gives, Reads};
 ghost use Rattle.term_syntax.specs.Grammar.{IsRight};
 ghost use Rattle.move_text.specs.declared.moves.Move.{Move};
 ghost use Rattle.move_text.specs.Grammar.{IsMoveText};
+ghost use Rattle.move_text.specs.Named.{HasTextName};
 ghost use Rattle.move_text.specs.Reading as spec;
-ghost use Rattle.move_text.specs.Reading.{Reads};
 
-use crate::cursor::Cursor;
 use crate::moves::Move;
+use crate::words::{name, word};
 use std::alloc::Global;
 use term_syntax::Kind;
-use term_text::ReadFault;
+use term_text::{Cursor, ReadFault};
 
 /// The move that a text is, blanks allowed before and after. The first word is never read as a constant, even where `(` follows
 /// directly. Terms may nest as deep as in a text of their own: the move round a term isn't counted.
@@ -33,6 +33,8 @@ pub fn read_move(alloc: Global, text: &[u8]) -> Result<Move, ReadFault>
     ensures found { IfOk result (λ m. IsMoveText text.now m) }
     // Where the text is a move by the grammar, that one is read, unless memory runs out.
     ensures only { (m : Move) → IsMoveText text.now m → IsRight result (λ n. m ≡ n) }
+    // The name of a new entry is one of the texts.
+    ensures named { IfOk result HasTextName }
     // The move, or the place of the refusal, is that of the reading from left to right.
     ensures exact { Gives (λ m _. m) (spec.read text.now) result }
 {
@@ -44,7 +46,7 @@ pub fn read_move(alloc: Global, text: &[u8]) -> Result<Move, ReadFault>
 fn read_all(alloc: Global, text: &[u8]) -> Result<Move, ReadFault>
     ensures { Gives (λ m _. m) (spec.read text.now) result }
 {
-    let mut cursor = Cursor::new(text, 0);
+    let mut cursor = Cursor::new(text);
     let found = form(alloc, &mut cursor)?;
     if !cursor.is_over() {
         return Err(cursor.refuse());
@@ -63,10 +65,10 @@ fn same(a: &[u8], b: &[u8]) -> bool
 fn form(alloc: Global, cursor: &mut Cursor<'_>) -> Result<Move, ReadFault>
     ensures { Reads (spec.form cursor.old) result cursor.new }
 {
-    let word = cursor.word();
+    let word = word(cursor);
     if same(word, b"intro") {
         cursor.take();
-        return Ok(Move::Intro(cursor.name(alloc)?));
+        return Ok(Move::Intro(name(alloc, cursor)?));
     }
     if same(word, b"apply") {
         cursor.take();
@@ -94,7 +96,7 @@ fn form(alloc: Global, cursor: &mut Cursor<'_>) -> Result<Move, ReadFault>
     }
     if same(word, b"unfold") {
         cursor.take();
-        return Ok(Move::Unfold(cursor.name(alloc)?));
+        return Ok(Move::Unfold(name(alloc, cursor)?));
     }
     Err(cursor.refuse())
 }
@@ -103,7 +105,7 @@ fn form(alloc: Global, cursor: &mut Cursor<'_>) -> Result<Move, ReadFault>
 fn having(alloc: Global, cursor: &mut Cursor<'_>) -> Result<Move, ReadFault>
     ensures { Reads (spec.having cursor.old) result cursor.new }
 {
-    let name = cursor.name(alloc)?;
+    let name = name(alloc, cursor)?;
     cursor.expect(Kind::Colon)?;
     let t = cursor.term(alloc)?;
     Ok(Move::Have(name, t))

@@ -12,7 +12,7 @@ use Rattle.term_syntax.specs.Lex.{Text, Lexeme, lexemes}
 use Rattle.term_syntax.specs.Grammar as grammar
 use Rattle.term_syntax.specs.Grammar.{IsLabel, IsTerm, IsBinder, IsApp, IsAtoms, IsAtom, IsArguments, first, node}
 use Rattle.term_syntax.specs.Printing.{Names, binder_text}
-use Rattle.term_syntax.specs.Scoping.{Arities, Bound, Scoped, ◌>>=◌, index_of, applied, below, scope}
+use Rattle.term_syntax.specs.Scoping.{Arities, Bound, Resolved, ◌>>=◌, index_of, applied, below, scope}
 use Rattle.term_syntax.proofs.Sound.{product_from}
 use Rattle.term_syntax.proofs.NoBinder.{app_no_binder}
 use Rattle.term_syntax.proofs.ScopeEquations.{scope_star, scope_named, scope_app, scope_lam, scope_pi}
@@ -26,7 +26,7 @@ pub record Known : Type 0 where
   pub names : Names
 
 -- what a tree means there
-abbrev pub means : Known → Surface → Bound → Scoped Term
+abbrev pub means : Known → Surface → Bound → Resolved Term
 means g = scope g.arity g.names
 
 -- The bytes, whatever comes behind them, are in the grammar, with a tree that means the term.

@@ -10,7 +10,7 @@ use Rattle.term_syntax.specs.declared.kind.Kind.TheVariants as k
 use Rattle.term_syntax.specs.Lex.{Text, lexemes}
 use Rattle.term_syntax.specs.Grammar as grammar
 use Rattle.term_syntax.specs.Grammar.{IsTerm, IsAtom, IsArguments, node}
-use Rattle.term_syntax.specs.Scoping.{Bound, Scoped, arguments, constant, below, scope}
+use Rattle.term_syntax.specs.Scoping.{Bound, Resolved, arguments, constant, below, scope}
 use Rattle.term_syntax.proofs.ScopeEquations.{scope_const}
 use Rattle.term_syntax.proofs.PrintedTokens.{tok, Ends, lex_blank, lex_open, lex_close, lex_comma}
 use Rattle.term_syntax.proofs.NameTokens.{lex_name}
@@ -38,7 +38,7 @@ count_tested m n e = grind (arith, nat_tests)
 
 constant_is : (at : ℕ) (a : Text) (us : Terms) → constant at a (Some (count us)) (map (λ u. Ok u) (before us [])) ≡ Ok (Const a us)
 constant_is at a us =
-    let counted : length (map {B = Scoped Term} (λ u. Ok u) (before us [])) ≡ count us = length-map (before us []) (λ u. Ok u) ∙ before_count us [] ∙ omega arith in
+    let counted : length (map {B = Resolved Term} (λ u. Ok u) (before us [])) ≡ count us = length-map (before us []) (λ u. Ok u) ∙ before_count us [] ∙ omega arith in
     rw (count_tested _ _ counted, arguments_are none (before us []) ∙ ap (λ us. Ok us) (before_onto us [])) refl
 
 -- The bytes of arguments, at least one: what stands behind a further comma goes on with them, and what may end a term ends them.

@@ -9,8 +9,8 @@ use Rattle.term_syntax.specs.declared.kind.Kind.{Kind}
 use Rattle.term_syntax.specs.declared.kind.Kind.TheVariants as k
 use Rattle.term_syntax.specs.Lex.{Lexeme}
 use Rattle.term_syntax.specs.Kinds.{is_kind}
-use Rattle.term_syntax.specs.Input.{Input, kind, kind_of, tail_of, next, place_of, spelling_of, begins_binder}
-use Rattle.term_syntax.specs.Reading.{Parser, and_then, ◌>>=◌, ◌>>◌, pure, here, peek, sees, expect, eat, take_token, label_at, begins_atom, binder, arguments_from, arguments, constant, parenthesized, atom_by, atom, atoms_from, atoms, app, applied, abstraction, product, arrows, whole, term}
+use Rattle.term_syntax.specs.Input.{Input, kind, kind_of, tail_of, next, place_of, spelling_of, begins_binder, is_nil}
+use Rattle.term_syntax.specs.Reading.{Parser, and_then, ◌>>=◌, ◌>>◌, pure, here, at_end, peek, sees, expect, eat, take_token, label_at, begins_atom, binder, arguments_from, arguments, constant, parenthesized, atom_by, atom, atoms_from, atoms, app, applied, abstraction, product, arrows, whole, term}
 use Rattle.term_syntax.specs.Grammar as grammar
 use Rattle.term_syntax.specs.Grammar.{IsLabel, IsTerm, IsBinder, IsApp, IsAtoms, IsAtom, IsArguments, first, node, level_of}
 use Rattle.term_syntax.proofs.Progress.{Shorter, term_shorter, atom_shorter, ok_inj}
@@ -76,6 +76,21 @@ peek_no test p e m = record {
   run = λ i is.
       let x = m.run i is in
       (x.0, (let seen : test (kind i) ≡ false = ap (λ ls. test (kind_of ls)) is ∙ e in rw seen x.1), x.2);
+}
+
+-- the first at the end of the text, and elsewhere the second
+pub over_yes : {A : Type 0} {p : Parser A} (q : Parser A) {ts rest : List Lexeme} {a : A} → is_nil ts ≡ true → Runs p ts a rest → Runs (at_end >>= (λ over. if over then p else q)) ts a rest
+over_yes q e m = record {
+  run = λ i is.
+      let x = m.run i is in
+      (x.0, (let seen : is_nil i.ahead ≡ true = ap is_nil is ∙ e in rw seen x.1), x.2);
+}
+
+pub over_no : {A : Type 0} (p : Parser A) {q : Parser A} {ts rest : List Lexeme} {a : A} → is_nil ts ≡ false → Runs q ts a rest → Runs (at_end >>= (λ over. if over then p else q)) ts a rest
+over_no p e m = record {
+  run = λ i is.
+      let x = m.run i is in
+      (x.0, (let seen : is_nil i.ahead ≡ false = ap is_nil is ∙ e in rw seen x.1), x.2);
 }
 
 pub take_runs : (l : Lexeme) (ts : List Lexeme) → Runs take_token (l ∷ ts) l.text ts
@@ -339,7 +354,7 @@ mutual
   term_runs (grammar.arrow {d = d} {a = a} {ts = ts} {us = us} p h e m) f = term_step d (arrow_at d (term d) (term_shorter d) ts (app_begins h) p (app_runs h (rw e refl)) e (term_runs m f))
   term_runs (grammar.application {d = d} {ts = ts} p h) f = term_step d (plain_at d (term d) (term_shorter d) ts (app_begins h) p (app_runs h f.no_atom) f.no_arrow)
 
-  binder_run : {d : ℕ} {ts rest : List Lexeme} {x : Label} {ty : Surface} → IsBinder d ts x ty rest → Runs (binder (term d)) ts (x, ty) rest
+  pub binder_run : {d : ℕ} {ts rest : List Lexeme} {x : Label} {ty : Surface} → IsBinder d ts x ty rest → Runs (binder (term d)) ts (x, ty) rest
   binder_run (grammar.binder {d = d} {e = z} {rest = rest} eo en ec t ez) = binder_runs d (term d) (term_shorter d) eo en ec (term_runs t (follows_close z rest ez)) ez
 
   app_runs : {d : ℕ} {ts rest : List Lexeme} {t : Surface} → IsApp d ts t rest → begins_atom (kind_of rest) ≡ false → Runs (app (term d)) ts t rest

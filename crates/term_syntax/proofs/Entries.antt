@@ -13,7 +13,7 @@ use Rattle.term_syntax.specs.declared.surface.Label.TheVariants as label
 use Rattle.term_syntax.specs.Lex.{Text}
 use Rattle.term_syntax.specs.Printing.{Names, entry_text, level_text, variable_text, occurs, occurs_in}
 use Rattle.term_syntax.specs.Scoping.{Bound, same_label, index_named, index_at, index_of}
-use Rattle.term_syntax.specs.ReadsBack.{Below, AllBelow}
+use Rattle.ld_trees.specs.Scoping.{Scoped, AllScoped}
 use Rattle.term_syntax.proofs.PrintedTokens.{or_false}
 use Rattle.term_syntax.proofs.Back.{Known, Spells}
 
@@ -136,15 +136,15 @@ either true b e = inl refl
 either false b e = inr e
 
 mutual
-  pub below_occurs : (n : ℕ) (t : Term) → Below n t → (i : ℕ) → occurs i t ≡ true → i < n
+  pub below_occurs : (n : ℕ) (t : Term) → Scoped n t → (i : ℕ) → occurs i t ≡ true → i < n
   below_occurs n (Srt s) h i o = absurd (false≢true o)
   below_occurs n (Var j) h i o = grind (arith, nat_tests, o, h)
   below_occurs n (App f a) h i o = elim (either (occurs i f) (occurs i a) o) [ inl e ↦ below_occurs n f h.0 i e | inr e ↦ below_occurs n a h.1 i e ]
-  below_occurs n (Lam A M) h i o = elim (either (occurs i A) (occurs (i + 1) M) o) [ inl e ↦ below_occurs n A h.0 i e | inr e ↦ omega (arith, below_occurs (n + 1) M h.1 (i + 1) e) ]
-  below_occurs n (Pi A B) h i o = elim (either (occurs i A) (occurs (i + 1) B) o) [ inl e ↦ below_occurs n A h.0 i e | inr e ↦ omega (arith, below_occurs (n + 1) B h.1 (i + 1) e) ]
+  below_occurs n (Lam A M) h i o = elim (either (occurs i A) (occurs (i + 1) M) o) [ inl e ↦ below_occurs n A h.0 i e | inr e ↦ omega (arith, below_occurs (suc n) M h.1 (i + 1) e) ]
+  below_occurs n (Pi A B) h i o = elim (either (occurs i A) (occurs (i + 1) B) o) [ inl e ↦ below_occurs n A h.0 i e | inr e ↦ omega (arith, below_occurs (suc n) B h.1 (i + 1) e) ]
   below_occurs n (Con c us) h i o = all_below_occur n us h i o
 
-  all_below_occur : (n : ℕ) (us : Terms) → AllBelow n us → (i : ℕ) → occurs_in i us ≡ true → i < n
+  all_below_occur : (n : ℕ) (us : Terms) → AllScoped n us → (i : ℕ) → occurs_in i us ≡ true → i < n
   all_below_occur n none h i o = absurd (false≢true o)
   all_below_occur n (us ▹ u) h i o = elim (either (occurs_in i us) (occurs i u) o) [ inl e ↦ all_below_occur n us h.0 i e | inr e ↦ below_occurs n u h.1 i e ]
 

@@ -8,8 +8,8 @@ use Rattle.term_syntax.specs.declared.kind.Kind.{Kind}
 use Rattle.term_syntax.specs.declared.kind.Kind.TheVariants as k
 use Rattle.term_syntax.specs.Lex.{Lexeme, Text}
 use Rattle.term_syntax.specs.Kinds.{is_kind}
-use Rattle.term_syntax.specs.Input.{Input, kind, kind_of, tail_of, next, place, place_of, spelling, spelling_of}
-use Rattle.term_syntax.specs.Reading.{Outcome, Parser, and_then, ◌>>=◌, pure, refuse, here, peek, sees, expect, eat, take_token, label_by, label_at, binder, parenthesized, abstraction, product, arguments_from}
+use Rattle.term_syntax.specs.Input.{Input, kind, kind_of, tail_of, next, place, place_of, spelling, spelling_of, is_nil}
+use Rattle.term_syntax.specs.Reading.{Outcome, Parser, and_then, ◌>>=◌, pure, refuse, here, at_end, peek, sees, expect, eat, take_token, label_by, label_at, binder, parenthesized, abstraction, product, arguments_from}
 use Rattle.term_syntax.specs.Grammar.{level_of, node}
 use Rattle.term_syntax.proofs.Progress.{chosen, ok_inj}
 use Rattle.term_syntax.proofs.Sound.{expect_took}
@@ -257,6 +257,40 @@ local_if false m n = n
 
 pub local_peek : {A : Type 0} (test : Kind → Bool) {p q : Parser A} → Local p → Local q → Local (peek >>= (λ kind. if test kind then p else q))
 local_peek test {p = p} {q = q} m n = local_by (λ t. if test t then p else q) (λ t. local_if (test t) m n)
+
+some_head : (s t : List Lexeme) → Head s t → (is_nil s ≡ false) × (is_nil t ≡ false)
+some_head s t (l, s', t', es, et) = (ap is_nil es, ap is_nil et)
+
+-- the first at the end of the text, and elsewhere the second
+pub local_over : {A : Type 0} {p q : Parser A} → Local p → Local q → Local (at_end >>= (λ over. if over then p else q))
+local_over {A = A} {p = p} {q = q} m n = record {
+  ok = λ i a r e. over_ok i a r e (is_nil i.ahead) refl;
+  err = λ i r e. over_err i r e (is_nil i.ahead) refl;
+} where
+  either : Parser A
+  either = at_end >>= (λ over. if over then p else q)
+
+  by : (i : Input) (b : Bool) → is_nil i.ahead ≡ b → either i ≡ (if b then p else q) i
+  by i b e = ap (λ b. (if b then p else q) i) e
+
+  more : (pre : List Lexeme) (i j r : Input) (tail : List Lexeme) → i.ahead ≡ pre ++ r.ahead → Head tail r.ahead → j.ahead ≡ pre ++ tail → (is_nil j.ahead ≡ false) × (is_nil i.ahead ≡ false)
+  more pre i j r tail ei h ej = let s = some_head (pre ++ tail) (pre ++ r.ahead) (head_after pre tail r.ahead h) in (ap is_nil ej ∙ s.0, ap is_nil ei ∙ s.1)
+
+  over_ok : (i : Input) (a : A) (r : Input) → either i ≡ Ok (a, r) → (b : Bool) → is_nil i.ahead ≡ b → OkAgain either i a r
+  over_ok i a r e true eb =
+      let x = m.ok i a r (sym (by i true eb) ∙ e) in
+      (x.0, x.1, λ j tail h ej. absurd (false≢true (sym (more x.0 i j r tail x.1 h ej).1 ∙ eb)))
+  over_ok i a r e false eb =
+      let x = n.ok i a r (sym (by i false eb) ∙ e) in
+      (x.0, x.1, λ j tail h ej. let y = x.2 j tail h ej in (y.0, by j false (more x.0 i j r tail x.1 h ej).0 ∙ y.1, y.2))
+
+  over_err : (i r : Input) → either i ≡ Err r → (b : Bool) → is_nil i.ahead ≡ b → ErrAgain either i r
+  over_err i r e true eb =
+      let x = m.err i r (sym (by i true eb) ∙ e) in
+      (x.0, x.1, λ j tail h ej. absurd (false≢true (sym (more x.0 i j r tail x.1 h ej).1 ∙ eb)))
+  over_err i r e false eb =
+      let x = n.err i r (sym (by i false eb) ∙ e) in
+      (x.0, x.1, λ j tail h ej. let y = x.2 j tail h ej in (y.0, by j false (more x.0 i j r tail x.1 h ej).0 ∙ y.1))
 
 end_comma : is_kind k.End k.Comma ≡ false
 unfolding is_kind

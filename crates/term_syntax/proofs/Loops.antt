@@ -19,7 +19,7 @@ cancel (x ∷ a) [] c e = absurd (omega (arith, ap (λ ls. length ls) e, length-
 cancel (x ∷ a) (y ∷ b) c e = let h : x ≡ y = cc in let t : a ++ c ≡ b ++ c = cc in ap (λ z. z ∷ a) h ∙ ap (λ zs. y ∷ zs) (cancel a b c t)
 
 -- A loop whose count of turns is above the tokens that are left: any such count gives the same, and each is local.
-local_fuel : {A : Type 0} (f : ℕ → Parser A) → ((n m : ℕ) (i : Input) → left i < n → left i < m → f n i ≡ f m i) → ((n : ℕ) → Local (f n)) → Local (λ i. f (suc (left i)) i)
+pub local_fuel : {A : Type 0} (f : ℕ → Parser A) → ((n m : ℕ) (i : Input) → left i < n → left i < m → f n i ≡ f m i) → ((n : ℕ) → Local (f n)) → Local (λ i. f (suc (left i)) i)
 local_fuel {A = A} f same l = record {
   ok = λ i a r e.
       let x = (l (suc (left i))).ok i a r e in (

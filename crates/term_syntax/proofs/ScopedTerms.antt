@@ -15,8 +15,9 @@ use Rattle.term_syntax.specs.declared.surface.Shape.TheViews.{roll-Surface}
 use Rattle.term_syntax.specs.declared.surface.Shape.TheOpen.{Shape-F, Surface-F}
 use Rattle.term_syntax.specs.Lex.{Text}
 use Rattle.term_syntax.specs.Printing.{Names}
-use Rattle.term_syntax.specs.ReadsBack.{Below, AllBelow, IsReadable, AreReadable}
-use Rattle.term_syntax.specs.Scoping.{Arities, Bound, Meaning, Scoped, ◌>>=◌, same_label, later, or_else, index_named, index_in_context, index_of, variable, applied, arguments, constant, below, node_meaning, scope}
+use Rattle.ld_trees.specs.Scoping.{Scoped, AllScoped}
+use Rattle.term_syntax.specs.ReadsBack.{IsReadable, AreReadable}
+use Rattle.term_syntax.specs.Scoping.{Arities, Bound, Meaning, Resolved, ◌>>=◌, same_label, later, or_else, index_named, index_in_context, index_of, variable, applied, arguments, constant, below, node_meaning, scope}
 
 -- ---- indices
 
@@ -52,21 +53,21 @@ index_below names x (Some y ∷ bound) i e = omega (arith, found_below (length b
 
 -- ---- terms
 
-abbrev scoped : {A : Type 0} → A → Scoped A
+abbrev scoped : {A : Type 0} → A → Resolved A
 scoped x = Ok x
 
 ok_is : {A : Type 0} (P : A → Type 0) (x t : A) → scoped x ≡ scoped t → P x → P t
 ok_is P x t e p = let s : x ≡ t = cc in subst P s p
 
-abbrev fitted : ℕ → Text → ℕ → ℕ → Bool → Scoped (Unit {0})
+abbrev fitted : ℕ → Text → ℕ → ℕ → Bool → Resolved (Unit {0})
 fitted at a given wanted b = cond b (Ok tt) (Err (WrongCount at a given wanted))
 
 module _ (arity : Arities) (names : Names) (known : (a : Text) (n : ℕ) → arity a ≡ Some n → IsTextName a) where
   abbrev pub IsGood : Bound → Term → Type 0
-  IsGood bound t = Below (length bound + length names) t × IsReadable arity t
+  IsGood bound t = Scoped (length bound + length names) t × IsReadable arity t
 
   abbrev AreGood : Bound → Terms → Type 0
-  AreGood bound us = AllBelow (length bound + length names) us × AreReadable arity us
+  AreGood bound us = AllScoped (length bound + length names) us × AreReadable arity us
 
   abbrev pub GivesGood : Meaning → Type 0
   GivesGood m = (bound : Bound) (t : Term) → m bound ≡ Ok t → IsGood bound t
@@ -88,7 +89,7 @@ module _ (arity : Arities) (names : Names) (known : (a : Text) (n : ℕ) → ari
   variable_good at x bound (Some i) t is e = ok_is (IsGood bound) (Var i) t e (index_below names x bound i is, tt)
 
   -- a meaning, and what is made of its term
-  then_good : (m : Scoped Term) (f : Term → Scoped Term) (bound inner : Bound) (t : Term) → ((u : Term) → m ≡ Ok u → IsGood inner u)
+  then_good : (m : Resolved Term) (f : Term → Resolved Term) (bound inner : Bound) (t : Term) → ((u : Term) → m ≡ Ok u → IsGood inner u)
       → ((u : Term) → IsGood inner u → f u ≡ Ok t → IsGood bound t) → m >>= f ≡ Ok t → IsGood bound t
   then_good (Err x) f bound inner t first next e = absurd cc
   then_good (Ok u) f bound inner t first next e = next u (first u refl) e
@@ -98,7 +99,7 @@ module _ (arity : Arities) (names : Names) (known : (a : Text) (n : ℕ) → ari
   applied_good (m ∷ ms) bound f t good e =
       then_good (scope arity names m.0 bound) _ bound bound t (m.1 bound) (λ a a_good e. applied_good ms bound (App f a) t ((good.0, a_good.0), (good.1, a_good.1)) e) e
 
-  arguments_by : (m : Scoped Term) (f : Term → Scoped Terms) (bound : Bound) (vs : Terms) (Q : Terms → Type 0) → ((u : Term) → m ≡ Ok u → IsGood bound u)
+  arguments_by : (m : Resolved Term) (f : Term → Resolved Terms) (bound : Bound) (vs : Terms) (Q : Terms → Type 0) → ((u : Term) → m ≡ Ok u → IsGood bound u)
       → ((u : Term) → IsGood bound u → f u ≡ Ok vs → Q vs) → m >>= f ≡ Ok vs → Q vs
   arguments_by (Err x) f bound vs Q first next e = absurd cc
   arguments_by (Ok u) f bound vs Q first next e = next u (first u refl) e
@@ -113,12 +114,12 @@ module _ (arity : Arities) (names : Names) (known : (a : Text) (n : ℕ) → ari
       (rest.0, omega (arith, rest.1)))
       e
 
-  constant_by : (at : ℕ) (a : Text) (o : Option ℕ) (ms : List GoodSurface) (bound : Bound) (t : Term) (given : List (Scoped Term)) → arity a ≡ o
+  constant_by : (at : ℕ) (a : Text) (o : Option ℕ) (ms : List GoodSurface) (bound : Bound) (t : Term) (given : List (Resolved Term)) → arity a ≡ o
       → given ≡ below bound (map (scope arity names) (map (λ p. p.0) ms)) → length given ≡ length ms → constant at a o given ≡ Ok t → IsGood bound t
   constant_by at a None ms bound t given is same long e = absurd cc
   constant_by at a (Some n) ms bound t given is same long e = fits (length given == n) refl e
     where
-      built : (o : Scoped Terms) → arguments none given ≡ o → o >>= (λ us. Ok (Const a us)) ≡ Ok t → length given ≡ n → IsGood bound t
+      built : (o : Resolved Terms) → arguments none given ≡ o → o >>= (λ us. Ok (Const a us)) ≡ Ok t → length given ≡ n → IsGood bound t
       built (Err x) q e l = absurd cc
       built (Ok us) q e l =
           let good = arguments_good ms bound none us (tt, tt) (ap (arguments none) (sym same) ∙ q) in
@@ -133,8 +134,8 @@ module _ (arity : Arities) (names : Names) (known : (a : Text) (n : ℕ) → ari
   length_below (m ∷ ms) bound = ap suc (length_below ms bound)
 
   -- under a binder
-  inner_good : (bound : Bound) (x : Option Label) (t : Term) → IsGood (x ∷ bound) t → Below (length bound + length names + 1) t × IsReadable arity t
-  inner_good bound x t good = let e : suc (length bound) + length names ≡ length bound + length names + 1 = omega arith in (subst (λ n. Below n t) e good.0, good.1)
+  inner_good : (bound : Bound) (x : Option Label) (t : Term) → IsGood (x ∷ bound) t → Scoped (suc (length bound + length names)) t × IsReadable arity t
+  inner_good bound x t good = let e : suc (length bound) + length names ≡ suc (length bound + length names) = omega arith in (subst (λ n. Scoped n t) e good.0, good.1)
 
   abbrev GoodShape : Type 0
   GoodShape = (s : Shape) × ShapeGood s
@@ -173,8 +174,8 @@ module _ (arity : Arities) (names : Names) (known : (a : Text) (n : ℕ) → ari
       (λ x y e. subst (λ l. SurfaceGood (roll-Surface l)) e (λ bound t h. y.shape.1 y.at bound t (sym (ap (λ f. f bound) (fold_out-Surface (ℕ → Meaning) Meaning (node_meaning arity names) (λ t. t.shape t.at) (rolled y))) ∙ h)))
 
 pub scoped_is_readable : (arity : Arities) (names : Names) → ((a : Text) (n : ℕ) → arity a ≡ Some n → IsTextName a)
-    → (s : Surface) (t : Term) → scope arity names s [] ≡ Ok t → Below (length names) t × IsReadable arity t
+    → (s : Surface) (t : Term) → scope arity names s [] ≡ Ok t → Scoped (length names) t × IsReadable arity t
 scoped_is_readable arity names known s t e =
     let good = scoped_is_good arity names known s [] t e in
     let z : 0 + length names ≡ length names = omega arith in
-    (subst (λ n. Below n t) z good.0, good.1)
+    (subst (λ n. Scoped n t) z good.0, good.1)

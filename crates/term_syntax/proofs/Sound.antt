@@ -11,8 +11,8 @@ use Rattle.term_syntax.specs.declared.kind.Kind.{Kind}
 use Rattle.term_syntax.specs.declared.kind.Kind.TheVariants as k
 use Rattle.term_syntax.specs.Lex.{Lexeme, Text}
 use Rattle.term_syntax.specs.Kinds.{is_kind}
-use Rattle.term_syntax.specs.Input.{Input, kind, kind_of, tail_of, next, place, place_of, spelling, spelling_of, begins_binder}
-use Rattle.term_syntax.specs.Reading.{Parser, and_then, ◌>>=◌, pure, refuse, here, peek, sees, expect, eat, take_token, label_by, label_at, begins_atom, binder, arguments_from, arguments, constant, parenthesized, atom_by, atom, atoms_from, atoms, app, applied, abstraction, product, arrows, whole, term}
+use Rattle.term_syntax.specs.Input.{Input, kind, kind_of, tail_of, next, place, place_of, spelling, spelling_of, begins_binder, is_nil}
+use Rattle.term_syntax.specs.Reading.{Parser, and_then, ◌>>=◌, pure, refuse, here, at_end, peek, sees, expect, eat, take_token, label_by, label_at, begins_atom, binder, arguments_from, arguments, constant, parenthesized, atom_by, atom, atoms_from, atoms, app, applied, abstraction, product, arrows, whole, term}
 use Rattle.term_syntax.specs.Grammar as grammar
 use Rattle.term_syntax.specs.Grammar.{IsLabel, IsTerm, IsBinder, IsApp, IsAtoms, IsAtom, IsArguments, first, node, level_of}
 use Rattle.term_syntax.proofs.Progress.{bind_ok, chosen, ok_inj}
@@ -89,7 +89,7 @@ weaken R m go = record { run = λ i a j e. go i a j (m.run i a j e) }
 pub done : {A : Type 0} (R : A → Input → Type 0) (a : A) (i : Input) (b : A) (j : Input) → ◌≡◌ {A = A × Input} (a, i) (b, j) → R a i → R b j
 done {A = A} R a i b j e h = subst (λ (p : A × Input). R p.0 p.1) e h
 
-closes : {d : ℕ} {ts : List Lexeme} {t : Surface} {us vs : List Lexeme} → us ≡ vs → IsTerm d ts t us → IsTerm d ts t vs
+pub closes : {d : ℕ} {ts : List Lexeme} {t : Surface} {us vs : List Lexeme} → us ≡ vs → IsTerm d ts t us → IsTerm d ts t vs
 closes {d = d} {ts = ts} {t = t} e h = subst (λ ls. IsTerm d ts t ls) e h
 
 abbrev pub Sound : ℕ → Parser Surface → Type 0
@@ -118,6 +118,18 @@ peek_at test p q P Q m n i a j false is e = inr (is, n.run i a j e)
 pub peek_means : {A : Type 0} (test : Kind → Bool) {p q : Parser A} {P Q : Input → A → Input → Type 0} → Means p P → Means q Q
     → Means (peek >>= (λ kind. if test kind then p else q)) (λ i a j. ((test (kind i) ≡ true) × P i a j) ⊎ ((test (kind i) ≡ false) × Q i a j))
 peek_means test {p = p} {q = q} {P = P} {Q = Q} m n = record { run = λ i a j e. peek_at test p q P Q m n i a j (test (kind i)) refl e }
+
+over_at : {A : Type 0} (p q : Parser A) (P Q : Input → A → Input → Type 0) → Means p P → Means q Q → (i : Input) (a : A) (j : Input) (b : Bool) → is_nil i.ahead ≡ b
+    → (if b then p else q) i ≡ Ok (a, j) → ((i.ahead ≡ []) × P i a j) ⊎ Q i a j
+over_at p q P Q m n i a j true is e = inl (nil_is i.ahead is, m.run i a j e) where
+  nil_is : (ls : List Lexeme) → is_nil ls ≡ true → ls ≡ []
+  nil_is [] e = refl
+  nil_is (l ∷ ls) e = cc
+over_at p q P Q m n i a j false is e = inr (n.run i a j e)
+
+-- the first at the end of the text, and elsewhere the second
+pub over_means : {A : Type 0} {p q : Parser A} {P Q : Input → A → Input → Type 0} → Means p P → Means q Q → Means (at_end >>= (λ over. if over then p else q)) (λ i a j. ((i.ahead ≡ []) × P i a j) ⊎ Q i a j)
+over_means {p = p} {q = q} {P = P} {Q = Q} m n = record { run = λ i a j e. over_at p q P Q m n i a j (is_nil i.ahead) refl e }
 
 -- one token that is an atom
 one_token : (d : ℕ) (t : Kind) (sh : Shape) → t ≢ k.End → ((l : Lexeme) (rest : List Lexeme) → l.kind ≡ t → IsAtom d (l ∷ rest) (node l.at sh) rest)

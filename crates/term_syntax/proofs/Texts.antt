@@ -1,37 +1,33 @@
 -- Reading a whole text, against the grammar.
-use Rattle.std.proofs.Common.{◌≡◌, Bool, true, false, if◌then◌else◌, List, [], ◌∷◌, Result, Ok, Err, refl, ap, sym, ◌∙◌, subst, IfOk}
+use Rattle.std.proofs.Common.{◌≡◌, inl, inr, [], Result, Ok, Err, refl, ap, sym, ◌∙◌, IfOk}
 use Rattle.term_syntax.specs.declared.surface.Surface.{Surface}
 use Rattle.term_syntax.specs.declared.fault.ReadFault.{ReadFault}
 use Rattle.term_syntax.specs.declared.fault.ReadFault.TheVariants as fault
-use Rattle.term_syntax.specs.Lex.{Text, Lexeme, lexemes}
-use Rattle.term_syntax.specs.Input.{Input, input_at, is_nil}
-use Rattle.term_syntax.specs.Reading.{Outcome, and_then, at_end, pure, refuse, ◌>>=◌, term, finish, read, IsRead, Gives}
+use Rattle.term_syntax.specs.Lex.{Text}
+use Rattle.term_syntax.specs.Input.{Input, input_at}
+use Rattle.term_syntax.specs.Reading.{Outcome, finish, read, IsRead, Gives}
 use Rattle.term_syntax.specs.Grammar.{IsTerm, IsText, IsRight}
 use Rattle.term_syntax.specs.Laws.{shown, ReadingIsSound, ReadingIsComplete, TreesAreUnique}
-use Rattle.term_syntax.proofs.Progress.{bind_ok, ok_inj}
-use Rattle.term_syntax.proofs.Sound.{term_sound}
-use Rattle.term_syntax.proofs.Complete.{term_runs, ends, one_tree}
+use Rattle.term_syntax.proofs.Progress.{ok_inj}
+use Rattle.term_syntax.proofs.Sound.{Means, then_means, pure_means, refuse_means, over_means, weaken, done, closes, term_sound}
+use Rattle.term_syntax.proofs.Complete.{one_tree}
+use Rattle.term_syntax.proofs.Refusals.{finish_runs}
 
-nil_is : (ls : List Lexeme) → is_nil ls ≡ true → ls ≡ []
-nil_is [] e = refl
-nil_is (l ∷ ls) e = cc
-
-last_ok : (t : Surface) (i : Input) (u : Surface) (j : Input) (b : Bool) → is_nil i.ahead ≡ b → (if b then pure t else refuse) i ≡ Ok (u, j) → (i.ahead ≡ []) × (t ≡ u)
-last_ok t i u j true e h = (nil_is i.ahead e, ap (λ (p : Surface × Input). p.0) (ok_inj (t, i) (u, j) h))
-last_ok t i u j false e h = cc h
+finish_sound : Means finish (λ i t j. IsTerm 512 i.ahead t [])
+unfolding finish
+finish_sound = weaken _ (then_means (term_sound 512) (λ t. over_means {Q = λ _ _ _. ⊥} (pure_means t) refuse_means))
+    (λ i t j (u, i1, is, ending). elim ending [
+      | inl (none, same) ↦ done (λ t _. IsTerm 512 i.ahead t []) u i1 t j same (closes none is)
+      | inr never ↦ absurd never
+    ])
 
 pub read_sound : (text : Text) (t : Surface) (j : Input) → read text ≡ Ok (t, j) → IsText text t
-unfolding read finish
-read_sound text t j e =
-    let x = bind_ok (term 512 (input_at text 0)) (λ t. at_end >>= (λ over. if over then pure t else refuse)) (t, j) e in
-    let y = last_ok x.0.0 x.0.1 t j (is_nil x.0.1.ahead) refl x.2 in
-    subst (λ u. IsText text u) y.1 (subst (λ ls. IsTerm 512 (lexemes 0 text) x.0.0 ls) y.0 ((term_sound 512).run (input_at text 0) x.0.0 x.0.1 x.1))
+unfolding read
+read_sound text t j e = finish_sound.run (input_at text 0) t j e
 
 pub read_complete : (text : Text) (t : Surface) → IsText text t → (j : Input) × (read text ≡ Ok (t, j))
-unfolding read finish
-read_complete text t h =
-    let x = (term_runs h ends).run (input_at text 0) refl in
-    (x.0, ap (λ r. and_then r (λ t. at_end >>= (λ over. if over then pure t else refuse))) x.1 ∙ (let n : is_nil x.0.ahead ≡ true = ap is_nil x.2 in rw n refl))
+unfolding read
+read_complete text t h = let x = (finish_runs h).run (input_at text 0) refl in (x.0, x.1)
 
 gives_ok : (o : Outcome Surface) (t : Surface) → IsRead (λ t _. t) o t → (j : Input) × (o ≡ Ok (t, j))
 gives_ok (Ok p) t e = (p.1, ap (λ (u : Surface). Ok (u, p.1)) (sym e))

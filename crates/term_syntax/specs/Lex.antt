@@ -7,7 +7,7 @@ use Rattle.std.specs.Prelude.{ℕ, zero, suc, ◌+◌, ◌-◌, Bool, ◌||◌, 
 use Rattle.std.specs.Char.{is_ascii_alphabetic, is_ascii_digit}
 use Rattle.std.specs.List.{prefix_len}
 use Rattle.std.specs.Str.{bytes_eq}
-use Rattle.ld_terms.specs.Names.{reserved_words, is_name_byte}
+use Rattle.ld_terms.specs.Names.{longest_name, reserved_words, is_name_byte}
 use Rattle.term_syntax.specs.declared.kind.Kind.{Kind}
 use Rattle.term_syntax.specs.declared.kind.Kind.TheVariants.{Bad, Star, Wild, Asked, Open, Close, Comma, Colon, Semi, Arrow, FatArrow, Assign, Name, Call, Level, Fun, Def, Prim}
 
@@ -36,7 +36,7 @@ word_kind word next = kind_among reserved_words (Fun ∷ Def ∷ Prim ∷ []) wo
 abbrev pub word : Text → Cut
 word z =
     let end = prefix_len is_name_byte z in
-    if nat_lt 64 end then (Bad, 1) else (word_kind (take end z) (slice_index z end), end)
+    if nat_lt longest_name end then (Bad, 1) else (word_kind (take end z) (slice_index z end), end)
 
 -- a level name: `%0`, or `%` and one to nine digits of which the first is not 0
 abbrev pub level : Text → Cut

@@ -2,6 +2,7 @@
 use Rattle.std.specs.Prelude.{◌≡◌, ◌≤◌, ◌<◌, ◌+◌, ℕ, [], ◌∷◌, length, Some, Ok}
 use Rattle.std.specs.Str.{IsAscii}
 use Rattle.ld_trees.specs.Term.{Term, Srt, star, square, Var, App, Lam, Pi, Con, Named, Numbered, Terms, none, ◌▹◌, count, depth}
+use Rattle.ld_trees.specs.Scoping.{Scoped}
 use Rattle.ld_terms.specs.Names.{IsTextName, IsEntryName}
 use Rattle.term_syntax.specs.declared.surface.Surface.{Surface}
 use Rattle.term_syntax.specs.Lex.{Text}
@@ -18,20 +19,6 @@ NamedFrom level (name ∷ names) = IsEntryName level name × NamedFrom (level + 
 pub record IsContext (names : Names) : Type 0 where
   pub named : NamedFrom 0 names
   pub few : length names < 999999000
-
--- each variable that no binder of the term binds is one of so many
-abbrev mutual
-  pub Below : ℕ → Term → Type 0
-  Below n (Srt s) = Unit {0}
-  Below n (Var i) = i < n
-  Below n (App f a) = Below n f × Below n a
-  Below n (Lam A M) = Below n A × Below (n + 1) M
-  Below n (Pi A B) = Below n A × Below (n + 1) B
-  Below n (Con h us) = AllBelow n us
-
-  pub AllBelow : ℕ → Terms → Type 0
-  AllBelow n none = Unit {0}
-  AllBelow n (us ▹ u) = AllBelow n us × Below n u
 
 -- without `□` and metavariables, and each constant known by its name, with as many parameters as it has arguments
 abbrev mutual
@@ -55,12 +42,12 @@ ReadsBack arity names t = (s : Surface) × IsText (text names (length names) t) 
 
 -- the round trip: every readable term within the limit of depth is read back from its text
 abbrev pub PrintedIsRead : Type 0
-PrintedIsRead = (arity : Arities) (names : Names) (t : Term) → length names < 999999000 → Below (length names) t → IsReadable arity t → depth t ≤ 512 → ReadsBack arity names t
+PrintedIsRead = (arity : Arities) (names : Names) (t : Term) → length names < 999999000 → Scoped (length names) t → IsReadable arity t → depth t ≤ 512 → ReadsBack arity names t
 
 -- What scoping gives: each variable is bound or one of the context, and each constant is known, where only names of the texts are known.
 abbrev pub ScopedIsReadable : Type 0
 ScopedIsReadable = (arity : Arities) (names : Names) → ((a : Text) (n : ℕ) → arity a ≡ Some n → IsTextName a)
-    → (s : Surface) (t : Term) → scope arity names s [] ≡ Ok t → Below (length names) t × IsReadable arity t
+    → (s : Surface) (t : Term) → scope arity names s [] ≡ Ok t → Scoped (length names) t × IsReadable arity t
 
 -- each constant has a name of the texts
 abbrev mutual

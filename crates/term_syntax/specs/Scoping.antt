@@ -62,41 +62,41 @@ label_text (label.Level k) = level_name k
 
 -- ---- terms
 
-abbrev pub Scoped : Type 0 → Type 0
-Scoped A = Result A ScopeFault
+abbrev pub Resolved : Type 0 → Type 0
+Resolved A = Result A ScopeFault
 
 infixl 10 ◌>>=◌
-abbrev pub ◌>>=◌ : {A B : Type 0} → Scoped A → (A → Scoped B) → Scoped B
+abbrev pub ◌>>=◌ : {A B : Type 0} → Resolved A → (A → Resolved B) → Resolved B
 (Err e) >>= f = Err e
 (Ok a) >>= f = f a
 
-abbrev pub variable : ℕ → Label → Option ℕ → Scoped Term
+abbrev pub variable : ℕ → Label → Option ℕ → Resolved Term
 variable at x None = Err (UnknownName at (label_text x))
 variable at x (Some i) = Ok (Var i)
 
 -- a head with its arguments, from left to right
-abbrev pub applied : Term → List (Scoped Term) → Scoped Term
+abbrev pub applied : Term → List (Resolved Term) → Resolved Term
 applied f [] = Ok f
 applied f (a ∷ rest) = a >>= (λ a. applied (App f a) rest)
 
 -- arguments behind others
-abbrev pub arguments : Terms → List (Scoped Term) → Scoped Terms
+abbrev pub arguments : Terms → List (Resolved Term) → Resolved Terms
 arguments us [] = Ok us
 arguments us (u ∷ rest) = u >>= (λ u. arguments (us ▹ u) rest)
 
 -- whether a constant is known and is given as many arguments as it has parameters
-abbrev pub fitting : ℕ → Text → Option ℕ → ℕ → Scoped (Unit {0})
+abbrev pub fitting : ℕ → Text → Option ℕ → ℕ → Resolved (Unit {0})
 fitting at a None given = Err (UnknownName at a)
 fitting at a (Some wanted) given = if given == wanted then Ok tt else Err (WrongCount at a given wanted)
 
-abbrev pub constant : ℕ → Text → Option ℕ → List (Scoped Term) → Scoped Term
+abbrev pub constant : ℕ → Text → Option ℕ → List (Resolved Term) → Resolved Term
 constant at a known given = fitting at a known (length given) >>= (λ _. arguments none given >>= (λ us. Ok (Const a us)))
 
 -- what a tree means below the binders passed
 abbrev pub Meaning : Type 0
-Meaning = Bound → Scoped Term
+Meaning = Bound → Resolved Term
 
-abbrev pub below : Bound → List Meaning → List (Scoped Term)
+abbrev pub below : Bound → List Meaning → List (Resolved Term)
 below bound = map (λ m. m bound)
 
 module _ (arity : Arities) (names : Names) where

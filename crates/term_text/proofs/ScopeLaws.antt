@@ -10,12 +10,12 @@ use Rattle.term_syntax.specs.declared.surface.Label.{Label}
 use Rattle.term_syntax.specs.declared.surface.Surface.{Surface}
 use Rattle.term_syntax.specs.declared.scope_fault.ScopeFault.{ScopeFault}
 use Rattle.term_syntax.specs.declared.scope_fault.ScopeFault.TheVariants.{UnknownName, WrongCount, Unsolved, Memory}
-use Rattle.term_syntax.specs.Scoping.{Bound, Scoped, ◌>>=◌, applied, arguments, below, scope, Arities}
+use Rattle.term_syntax.specs.Scoping.{Bound, Resolved, ◌>>=◌, applied, arguments, below, scope, Arities}
 use Rattle.term_syntax.specs.Printing.{Names}
 use Rattle.term_text.specs.Scoped.{bound_onto, bound_of, Refuses}
 
 -- a refusal of the first step is the whole's
-pub refused : {A B : Type 0} (o : Scoped A) (f : A → Scoped B) (e : ScopeFault) → Refuses o e → Refuses (o >>= f) e
+pub refused : {A B : Type 0} (o : Resolved A) (f : A → Resolved B) (e : ScopeFault) → Refuses o e → Refuses (o >>= f) e
 refused o f Memory h = tt
 refused o f (UnknownName at a) h = ap (λ o. o >>= f) h
 refused o f (WrongCount at a given wanted) h = ap (λ o. o >>= f) h
@@ -54,13 +54,13 @@ nothing_left r (u ∷ us) (suc i) h = nothing_left r us i (omega arith)
 -- ---- an application with all of its arguments
 
 -- so many arguments are applied, and the rest decides the outcome
-pub record Spine {H : Type 0} (p : H → Type 0) (m : H → Term) (q : H → Type 0) (n : H → Term) (outcome : Scoped Term) (rest : List (Scoped Term)) (h : H) : Type 0 where
+pub record Spine {H : Type 0} (p : H → Type 0) (m : H → Term) (q : H → Type 0) (n : H → Term) (outcome : Resolved Term) (rest : List (Resolved Term)) (h : H) : Type 0 where
   pub kept : Keeps p m q n
   pub held : q h
   pub is : outcome ≡ applied (n h) rest
 
-pub spine_turn : {H : Type 0} {p q q' q'' : H → Type 0} {m n n' n'' : H → Term} {outcome : Scoped Term} {h : H}
-    (r : Surface → Scoped Term) (us : List Surface) (i : ℕ) (u : Surface) (a h' : H) → Spine p m q n outcome (map r (drop i us)) h → i < length us → u ≡ get_or us i u
+pub spine_turn : {H : Type 0} {p q q' q'' : H → Type 0} {m n n' n'' : H → Term} {outcome : Resolved Term} {h : H}
+    (r : Surface → Resolved Term) (us : List Surface) (i : ℕ) (u : Surface) (a h' : H) → Spine p m q n outcome (map r (drop i us)) h → i < length us → u ≡ get_or us i u
     → Keeps q n q' n' → r u ≡ Ok (n' a) → Keeps q' n' q'' n'' → q'' h' → n'' h' ≡ App (n' h) (n' a) → Spine p m q'' n'' outcome (map r (drop (i + 1) us)) h'
 spine_turn {p = p} {q = q} {q' = q'} {q'' = q''} {m = m} {n = n} {n' = n'} {n'' = n''} {h = h} r us i u a h' s lt is k scoped k' held made = record {
   kept = keeps_both p m q n q'' n'' s.kept (keeps_both q n q' n' q'' n'' k k');
@@ -73,25 +73,25 @@ spine_turn {p = p} {q = q} {q' = q'} {q'' = q''} {m = m} {n = n} {n' = n'} {n'' 
       ∙ ap (λ f. applied f (map r (drop (i + 1) us))) (sym made);
 }
 
-pub spine_refused : {H : Type 0} {p q : H → Type 0} {m n : H → Term} {outcome : Scoped Term} {h : H}
-    (r : Surface → Scoped Term) (us : List Surface) (i : ℕ) (u : Surface) (e : ScopeFault) → Spine p m q n outcome (map r (drop i us)) h → i < length us → u ≡ get_or us i u
+pub spine_refused : {H : Type 0} {p q : H → Type 0} {m n : H → Term} {outcome : Resolved Term} {h : H}
+    (r : Surface → Resolved Term) (us : List Surface) (i : ℕ) (u : Surface) (e : ScopeFault) → Spine p m q n outcome (map r (drop i us)) h → i < length us → u ≡ get_or us i u
     → Refuses (r u) e → Refuses outcome e
 spine_refused {n = n} {h = h} r us i u e s lt is bad =
     subst (λ o. Refuses o e) (sym (s.is ∙ ap (applied (n h)) (left r us i u lt is))) (refused (r u) (λ a. applied (App (n h) a) (map r (drop (i + 1) us))) e bad)
 
-pub spine_done : {H : Type 0} {p q : H → Type 0} {m n : H → Term} {outcome : Scoped Term} {h : H}
-    (r : Surface → Scoped Term) (us : List Surface) (i : ℕ) → Spine p m q n outcome (map r (drop i us)) h → length us ≤ i → outcome ≡ Ok (n h)
+pub spine_done : {H : Type 0} {p q : H → Type 0} {m n : H → Term} {outcome : Resolved Term} {h : H}
+    (r : Surface → Resolved Term) (us : List Surface) (i : ℕ) → Spine p m q n outcome (map r (drop i us)) h → length us ≤ i → outcome ≡ Ok (n h)
 spine_done {n = n} {h = h} r us i s over = s.is ∙ ap (applied (n h)) (nothing_left r us i over)
 
 -- ---- arguments of a constant
 
-pub record Each {H : Type 0} (p : H → Type 0) (m : H → Term) (q : H → Type 0) (n : H → Term) (outcome : Scoped Terms) (rest : List (Scoped Term)) (out : List H) : Type 0 where
+pub record Each {H : Type 0} (p : H → Type 0) (m : H → Term) (q : H → Type 0) (n : H → Term) (outcome : Resolved Terms) (rest : List (Resolved Term)) (out : List H) : Type 0 where
   pub kept : Keeps p m q n
   pub held : All q out
   pub is : outcome ≡ arguments (terms_of (map n out)) rest
 
-pub each_turn : {H : Type 0} {p q q' : H → Type 0} {m n n' : H → Term} {outcome : Scoped Terms} {out : List H}
-    (r : Surface → Scoped Term) (us : List Surface) (i : ℕ) (u : Surface) (a : H) → Each p m q n outcome (map r (drop i us)) out → i < length us → u ≡ get_or us i u
+pub each_turn : {H : Type 0} {p q q' : H → Type 0} {m n n' : H → Term} {outcome : Resolved Terms} {out : List H}
+    (r : Surface → Resolved Term) (us : List Surface) (i : ℕ) (u : Surface) (a : H) → Each p m q n outcome (map r (drop i us)) out → i < length us → u ≡ get_or us i u
     → Keeps q n q' n' → q' a → r u ≡ Ok (n' a) → Each p m q' n' outcome (map r (drop (i + 1) us)) (out ++ a ∷ [])
 each_turn {p = p} {q = q} {q' = q'} {m = m} {n = n} {n' = n'} {out = out} r us i u a s lt is k held scoped = record {
   kept = keeps_both p m q n q' n' s.kept k;
@@ -104,14 +104,14 @@ each_turn {p = p} {q = q} {q' = q'} {m = m} {n = n} {n' = n'} {out = out} r us i
       ∙ ap (λ us'. arguments us' (map r (drop (i + 1) us))) (sym (terms_of_end n' out a));
 }
 
-pub each_refused : {H : Type 0} {p q : H → Type 0} {m n : H → Term} {outcome : Scoped Terms} {out : List H}
-    (r : Surface → Scoped Term) (us : List Surface) (i : ℕ) (u : Surface) (e : ScopeFault) → Each p m q n outcome (map r (drop i us)) out → i < length us → u ≡ get_or us i u
+pub each_refused : {H : Type 0} {p q : H → Type 0} {m n : H → Term} {outcome : Resolved Terms} {out : List H}
+    (r : Surface → Resolved Term) (us : List Surface) (i : ℕ) (u : Surface) (e : ScopeFault) → Each p m q n outcome (map r (drop i us)) out → i < length us → u ≡ get_or us i u
     → Refuses (r u) e → Refuses outcome e
 each_refused {n = n} {out = out} r us i u e s lt is bad =
     subst (λ o. Refuses o e) (sym (s.is ∙ ap (arguments (terms_of (map n out))) (left r us i u lt is))) (refused (r u) (λ v. arguments (terms_of (map n out) ▹ v) (map r (drop (i + 1) us))) e bad)
 
-pub each_done : {H : Type 0} {p q : H → Type 0} {m n : H → Term} {outcome : Scoped Terms} {out : List H}
-    (r : Surface → Scoped Term) (us : List Surface) (i : ℕ) → Each p m q n outcome (map r (drop i us)) out → length us ≤ i → outcome ≡ Ok (terms_of (map n out))
+pub each_done : {H : Type 0} {p q : H → Type 0} {m n : H → Term} {outcome : Resolved Terms} {out : List H}
+    (r : Surface → Resolved Term) (us : List Surface) (i : ℕ) → Each p m q n outcome (map r (drop i us)) out → length us ≤ i → outcome ≡ Ok (terms_of (map n out))
 each_done {n = n} {out = out} r us i s over = s.is ∙ ap (arguments (terms_of (map n out))) (nothing_left r us i over)
 
 -- what trees mean, one by one
@@ -126,14 +126,14 @@ all_left r (u ∷ us) = refl
 pub before_all : (arity : Arities) (names : Names) (bound : Bound) (us : List Surface) → below bound (map (scope arity names) us) ≡ map (λ u. scope arity names u bound) (drop 0 us)
 before_all arity names bound us = results arity names bound us ∙ sym (all_left (λ u. scope arity names u bound) us)
 
-pub each_init : {H : Type 0} {p : H → Type 0} {m : H → Term} (outcome : Scoped Terms) (rest : List (Scoped Term)) (out : List H) → out ≡ [] → outcome ≡ arguments none rest → Each p m p m outcome rest out
+pub each_init : {H : Type 0} {p : H → Type 0} {m : H → Term} (outcome : Resolved Terms) (rest : List (Resolved Term)) (out : List H) → out ≡ [] → outcome ≡ arguments none rest → Each p m p m outcome rest out
 each_init {m = m} outcome rest out e is = record {
   kept = λ h held. (held, refl);
   held = λ k d lt. absurd (omega (arith, ap (λ xs. length xs) e));
   is = is ∙ ap (λ us. arguments (terms_of (map m us)) rest) (sym e);
 }
 
-pub spine_init : {H : Type 0} {p : H → Type 0} {m : H → Term} (outcome : Scoped Term) (rest : List (Scoped Term)) (h : H) → p h → outcome ≡ applied (m h) rest → Spine p m p m outcome rest h
+pub spine_init : {H : Type 0} {p : H → Type 0} {m : H → Term} (outcome : Resolved Term) (rest : List (Resolved Term)) (h : H) → p h → outcome ≡ applied (m h) rest → Spine p m p m outcome rest h
 spine_init outcome rest h held is = record { kept = λ h held. (held, refl); held = held; is = is }
 
 pub ruleset scope_laws = (refused, pushed, results)

@@ -9,22 +9,22 @@ use Rattle.term_syntax.specs.declared.surface.Shape.TheVariants as shape
 use Rattle.term_syntax.specs.declared.scope_fault.ScopeFault.{ScopeFault}
 use Rattle.term_syntax.specs.Lex.{Text}
 use Rattle.term_syntax.specs.Printing.{Names}
-use Rattle.term_syntax.specs.Scoping.{Arities, Bound, Scoped, ◌>>=◌, applied, arguments, fitting, below, scope}
+use Rattle.term_syntax.specs.Scoping.{Arities, Bound, Resolved, ◌>>=◌, applied, arguments, fitting, below, scope}
 use Rattle.term_syntax.proofs.ScopeEquations.{scope_const, scope_app, scope_lam, scope_pi}
 use Rattle.term_text.specs.Scoped.{Refuses, bound_of}
 use Rattle.term_text.proofs.ScopeLaws.{refused}
 
-refused_by : {A B : Type 0} (whole : Scoped B) (o : Scoped A) (f : A → Scoped B) (e : ScopeFault) → whole ≡ o >>= f → Refuses o e → Refuses whole e
+refused_by : {A B : Type 0} (whole : Resolved B) (o : Resolved A) (f : A → Resolved B) (e : ScopeFault) → whole ≡ o >>= f → Refuses o e → Refuses whole e
 refused_by whole o f e is bad = subst (λ w. Refuses w e) (sym is) (refused o f e bad)
 
-second_by : {A B : Type 0} (whole : Scoped B) (o : Scoped A) (f : A → Scoped B) (a : A) → whole ≡ o >>= f → o ≡ Ok a → whole ≡ f a
+second_by : {A B : Type 0} (whole : Resolved B) (o : Resolved A) (f : A → Resolved B) (a : A) → whole ≡ o >>= f → o ≡ Ok a → whole ≡ f a
 second_by whole o f a is e = is ∙ ap (λ o. o >>= f) e
 
 -- what holds of the outcome of one tree holds of an equal one's, below equal binders
-pub at_same : (arity : Arities) (names : Names) (P : Scoped Term → Type 0) (bound : Bound) (u v : Surface) → u ≡ v → P (scope arity names u bound) → P (scope arity names v bound)
+pub at_same : (arity : Arities) (names : Names) (P : Resolved Term → Type 0) (bound : Bound) (u v : Surface) → u ≡ v → P (scope arity names u bound) → P (scope arity names v bound)
 at_same arity names P bound u v e h = subst (λ w. P (scope arity names w bound)) e h
 
-pub at_equal : (arity : Arities) (names : Names) (P : Scoped Term → Type 0) (u v : Surface) (l k : Option Label) (ls ks : List (Option (Bor Label))) → u ≡ v → l ≡ k → ls ≡ ks
+pub at_equal : (arity : Arities) (names : Names) (P : Resolved Term → Type 0) (u v : Surface) (l k : Option Label) (ls ks : List (Option (Bor Label))) → u ≡ v → l ≡ k → ls ≡ ks
     → P (scope arity names u (l ∷ bound_of ls)) → P (scope arity names v (k ∷ bound_of ks))
 at_equal arity names P u v l k ls ks e f i h =
     subst (λ w. P (scope arity names w (k ∷ bound_of ks))) e (subst (λ m. P (scope arity names u (m ∷ bound_of ks))) f (subst (λ ms. P (scope arity names u (l ∷ bound_of ms))) i h))

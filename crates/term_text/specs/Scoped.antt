@@ -9,7 +9,7 @@ use Rattle.ld_terms.specs.Views.{terms_of}
 use Rattle.term_syntax.specs.declared.surface.Label.{Label}
 use Rattle.term_syntax.specs.declared.scope_fault.ScopeFault.{ScopeFault}
 use Rattle.term_syntax.specs.declared.scope_fault.ScopeFault.TheVariants.{Memory}
-use Rattle.term_syntax.specs.Scoping.{Arities, Bound, Scoped, same_label}
+use Rattle.term_syntax.specs.Scoping.{Arities, Bound, Resolved, same_label}
 
 -- how many parameters each constant of an environment has
 abbrev pub arities : {H : Type 0} → List (Item H) → Arities
@@ -29,20 +29,20 @@ is_bound_by None x = false
 is_bound_by (Some y) x = same_label x y.now
 
 -- a refusal is the outcome's, unless memory ran out
-abbrev pub Refuses : {A : Type 0} → Scoped A → ScopeFault → Type 0
+abbrev pub Refuses : {A : Type 0} → Resolved A → ScopeFault → Type 0
 Refuses outcome Memory = Unit {0}
 Refuses outcome fault = outcome ≡ Err fault
 
 -- the answer is the outcome: a handle that means the outcome's term, or its refusal
-abbrev pub IsScoped : {H : Type 0} → (H → Type 0) → (H → Term) → Scoped Term → Result H ScopeFault → Type 0
-IsScoped holds means outcome (Ok h) = holds h × (outcome ≡ Ok (means h))
-IsScoped holds means outcome (Err fault) = Refuses outcome fault
+abbrev pub IsResolved : {H : Type 0} → (H → Type 0) → (H → Term) → Resolved Term → Result H ScopeFault → Type 0
+IsResolved holds means outcome (Ok h) = holds h × (outcome ≡ Ok (means h))
+IsResolved holds means outcome (Err fault) = Refuses outcome fault
 
 -- handles that mean the outcome's terms
-abbrev pub AreScoped : {H : Type 0} → (H → Type 0) → (H → Term) → Scoped Terms → List H → Type 0
-AreScoped holds means outcome us = All holds us × (outcome ≡ Ok (terms_of (map means us)))
+abbrev pub AreResolved : {H : Type 0} → (H → Type 0) → (H → Term) → Resolved Terms → List H → Type 0
+AreResolved holds means outcome us = All holds us × (outcome ≡ Ok (terms_of (map means us)))
 
 -- the answer of a test
-abbrev pub IsChecked : Scoped (Unit {0}) → Result (Unit {0}) ScopeFault → Type 0
+abbrev pub IsChecked : Resolved (Unit {0}) → Result (Unit {0}) ScopeFault → Type 0
 IsChecked outcome (Ok u) = outcome ≡ Ok tt
 IsChecked outcome (Err fault) = Refuses outcome fault

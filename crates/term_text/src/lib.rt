@@ -1,4 +1,4 @@
-//! The texts of terms: reading, scoping and printing.
+//! The texts of terms: a cursor over their tokens, reading, scoping and printing.
 #![tactic(auto)]
 
 mod cursor;
@@ -11,7 +11,8 @@ mod store_tests;
 #[cfg(test)]
 mod tests;
 
-pub use print::{Printed, print_term};
+pub use cursor::Cursor;
+pub use print::{Printed, level_name, print_term};
 pub use read::{read_term, read_term_at};
 pub use scope::scope_term;
 pub use term_syntax::{Label, ReadFault, ScopeFault, Shape, Surface};

@@ -7,7 +7,8 @@ ghost use Rattle.ld_trees.specs.Term.{Pi, Meta, depth, depth_all};
 ghost use Rattle.ld_terms.specs.Names.{level_name};
 ghost use Rattle.ld_terms.specs.Views.{terms_of};
 ghost use Rattle.term_syntax.specs.Printing as spec;
-ghost use Rattle.term_syntax.specs.ReadsBack.{IsContext, NamedFrom, Below, HasTextNames};
+ghost use Rattle.ld_trees.specs.Scoping.{Scoped};
+ghost use Rattle.term_syntax.specs.ReadsBack.{IsContext, NamedFrom, HasTextNames};
 ghost use Rattle.term_text.specs.Printed.{printed_as, PrintedReadsBack, PrintedIsAscii};
 
 use itoa::Buffer;
@@ -43,7 +44,7 @@ pub fn print_term<T: Terms>(
     // The text, or the size of a term that is too large.
     ensures exact { IfOk result (λ p. p ≡ printed_as names.now (T.means terms.now h)) }
     // Where each variable that no binder of the term binds stands for one of the names, what is printed is read again as the same term.
-    ensures reads_back { Below (length names.now) (T.means terms.now h) → IfOk result (λ p. PrintedReadsBack names.now (T.means terms.now h) p) }
+    ensures reads_back { Scoped (length names.now) (T.means terms.now h) → IfOk result (λ p. PrintedReadsBack names.now (T.means terms.now h) p) }
     // The text is ASCII where the term's constants have names of the texts.
     ensures ascii { IfOk result (λ p. HasTextNames (T.means terms.now h) → PrintedIsAscii p) }
 {
@@ -139,6 +140,15 @@ pub(crate) fn put_level(out: &mut Vec<u8>, level: u64) -> Result<(), AllocError>
     let mut buffer = Buffer::new();
     put(out, b"%")?;
     put(out, buffer.format(level).as_bytes())
+}
+
+/// The level name `%k` of a level. Fails for want of memory alone.
+pub fn level_name(alloc: Global, level: u64) -> Result<Name, AllocError>
+    ensures { IfOk result (λ n. n ≡ level_name level) }
+{
+    let mut text = Vec::new(alloc);
+    put_level(&mut text, level)?;
+    Name::of(alloc, &text)
 }
 
 /// Whether a later entry has the name of the entry at a place.

@@ -85,7 +85,7 @@ fn begins_atom(kind: Kind) -> bool
 }
 
 /// How many terms may stand inside one another, the outermost counted.
-const MAX_NESTING: usize = 512;
+pub const MAX_NESTING: usize = 512;
 
 /// The tree of a text that is one term of the grammar, blanks allowed before and after.
 ///
@@ -110,8 +110,8 @@ pub fn read_term(alloc: Global, text: &[u8]) -> Result<Surface, ReadFault>
 fn read_all(alloc: Global, text: &[u8]) -> Result<Surface, ReadFault>
     ensures { Gives (λ t _. t) (spec.read text.now) result }
 {
-    let mut cursor = Cursor::new(text, 0);
-    let t = term(alloc, &mut cursor, MAX_NESTING)?;
+    let mut cursor = Cursor::new(text);
+    let t = cursor.term(alloc)?;
     if !cursor.is_over() {
         return Err(cursor.refuse());
     }
@@ -143,15 +143,15 @@ fn read_from(alloc: Global, text: &[u8], at: u64) -> Result<(Surface, u64), Read
     ensures { Gives (λ t i. (t, i.at)) (spec.read_at text.now at) result }
 {
     let at = at.min(text.len() as u64) as usize;
-    let mut cursor = Cursor::new(text, at);
-    let t = term(alloc, &mut cursor, MAX_NESTING)?;
+    let mut cursor = Cursor::from_place(text, at);
+    let t = cursor.term(alloc)?;
     Ok((t, cursor.at() as u64))
 }
 
 /// `"(" ( name | level ) ":" term ")"`.
 #[cycle(term)]
 #[tactic(auto, unfolding(term_syntax::specs::Reading::binder))]
-fn binder(
+pub fn binder(
     alloc: Global,
     cursor: &mut Cursor<'_>,
     depth: usize,
@@ -196,7 +196,7 @@ fn abstraction(alloc: Global, cursor: &mut Cursor<'_>, depth: usize) -> Result<S
 /// A term. At depth 0 it is refused at its first token.
 #[cycle(term)]
 #[tactic(auto, unfolding(term_syntax::specs::Reading::term))]
-fn term(alloc: Global, cursor: &mut Cursor<'_>, depth: usize) -> Result<Surface, ReadFault>
+pub fn term(alloc: Global, cursor: &mut Cursor<'_>, depth: usize) -> Result<Surface, ReadFault>
     ensures { Reads (spec.term depth cursor.old) result cursor.new }
 {
     if depth == 0 {

@@ -6,7 +6,7 @@ ghost use Rattle.ld_terms.specs.Views.{Keeps};
 ghost use Rattle.term_syntax.specs.Scoping as spec;
 ghost use Rattle.term_syntax.specs.Scoping.{below};
 ghost use Rattle.std.specs.Option.{option_copied};
-ghost use Rattle.term_text.specs.Scoped.{arities, bound_of, is_bound_by, AreScoped, IsChecked, IsScoped, Refuses};
+ghost use Rattle.term_text.specs.Scoped.{arities, bound_of, is_bound_by, AreResolved, IsChecked, IsResolved, Refuses};
 
 use crate::print::put_level;
 use ld_terms::{Globals, Name, Terms, View};
@@ -27,7 +27,7 @@ pub fn scope_term<T: Terms, G: Globals<T::Handle>>(
     surface: &Surface,
 ) -> Result<T::Handle, ScopeFault>
     // The term, or the first refusal, exactly.
-    ensures exact { IsScoped (T.holds terms.new) (T.means terms.new) (spec.scope (arities (G.items globals.now)) names.now surface.now []) result }
+    ensures exact { IsResolved (T.holds terms.new) (T.means terms.new) (spec.scope (arities (G.items globals.now)) names.now surface.now []) result }
     // Older handles mean what they meant.
     ensures kept { Keeps (T.holds terms.old) (T.means terms.old) (T.holds terms.new) (T.means terms.new) }
 {
@@ -151,7 +151,7 @@ fn scope_variable<T: Terms>(
     at: u64,
     x: &Label,
 ) -> Result<T::Handle, ScopeFault>
-    ensures exact { IsScoped (T.holds terms.new) (T.means terms.new) (spec.variable at x.now (spec.index_of names.now x.now (bound_of bound.now))) result }
+    ensures exact { IsResolved (T.holds terms.new) (T.means terms.new) (spec.variable at x.now (spec.index_of names.now x.now (bound_of bound.now))) result }
     ensures kept { Keeps (T.holds terms.old) (T.means terms.old) (T.holds terms.new) (T.means terms.new) }
 {
     match index_of(names, bound, x)? {
@@ -215,7 +215,7 @@ fn scope_node<'a, T: Terms, G: Globals<T::Handle>>(
     bound: &mut Vec<Option<&'a Label>>,
     t: &'a Surface,
 ) -> Result<T::Handle, ScopeFault>
-    ensures exact { IsScoped (T.holds terms.new) (T.means terms.new) (spec.scope (arities (G.items globals.now)) names.now t.now (bound_of bound.old.items)) result }
+    ensures exact { IsResolved (T.holds terms.new) (T.means terms.new) (spec.scope (arities (G.items globals.now)) names.now t.now (bound_of bound.old.items)) result }
     ensures kept { Keeps (T.holds terms.old) (T.means terms.old) (T.holds terms.new) (T.means terms.new) }
     ensures bound { OnOk result (bound.new.items ≡ bound.old.items) }
 {
@@ -258,7 +258,7 @@ fn scope_under<'a, T: Terms, G: Globals<T::Handle>>(
     label: Option<&'a Label>,
     t: &'a Surface,
 ) -> Result<T::Handle, ScopeFault>
-    ensures exact { IsScoped (T.holds terms.new) (T.means terms.new) (spec.scope (arities (G.items globals.now)) names.now t.now (option_copied label.entry ∷ bound_of bound.old.items)) result }
+    ensures exact { IsResolved (T.holds terms.new) (T.means terms.new) (spec.scope (arities (G.items globals.now)) names.now t.now (option_copied label.entry ∷ bound_of bound.old.items)) result }
     ensures kept { Keeps (T.holds terms.old) (T.means terms.old) (T.holds terms.new) (T.means terms.new) }
     ensures bound { OnOk result (bound.new.items ≡ bound.old.items) }
 {
@@ -280,7 +280,7 @@ fn scope_spine<'a, T: Terms, G: Globals<T::Handle>>(
     us: &'a [Surface],
 ) -> Result<T::Handle, ScopeFault>
     requires { T.holds terms.old head }
-    ensures exact { IsScoped (T.holds terms.new) (T.means terms.new) (spec.applied (T.means terms.old head) (below (bound_of bound.old.items) (map (spec.scope (arities (G.items globals.now)) names.now) us.now))) result }
+    ensures exact { IsResolved (T.holds terms.new) (T.means terms.new) (spec.applied (T.means terms.old head) (below (bound_of bound.old.items) (map (spec.scope (arities (G.items globals.now)) names.now) us.now))) result }
     ensures kept { Keeps (T.holds terms.old) (T.means terms.old) (T.holds terms.new) (T.means terms.new) }
     ensures bound { OnOk result (bound.new.items ≡ bound.old.items) }
 {
@@ -302,7 +302,7 @@ fn scope_each<'a, T: Terms, G: Globals<T::Handle>>(
     bound: &mut Vec<Option<&'a Label>>,
     us: &'a [Surface],
 ) -> Result<Vec<T::Handle>, ScopeFault>
-    ensures exact { MatchResult result (λ v. AreScoped (T.holds terms.new) (T.means terms.new) (spec.arguments none (below (bound_of bound.old.items) (map (spec.scope (arities (G.items globals.now)) names.now) us.now))) v.items) (λ e. Refuses (spec.arguments none (below (bound_of bound.old.items) (map (spec.scope (arities (G.items globals.now)) names.now) us.now))) e) }
+    ensures exact { MatchResult result (λ v. AreResolved (T.holds terms.new) (T.means terms.new) (spec.arguments none (below (bound_of bound.old.items) (map (spec.scope (arities (G.items globals.now)) names.now) us.now))) v.items) (λ e. Refuses (spec.arguments none (below (bound_of bound.old.items) (map (spec.scope (arities (G.items globals.now)) names.now) us.now))) e) }
     ensures kept { Keeps (T.holds terms.old) (T.means terms.old) (T.holds terms.new) (T.means terms.new) }
     ensures bound { OnOk result (bound.new.items ≡ bound.old.items) }
 {

@@ -2,7 +2,7 @@
 
 ghost use Rattle.std.specs.Prelude.{IfOk};
 ghost use Rattle.ld_terms.specs.Views.{Keeps};
-ghost use Rattle.term_syntax.specs.ReadsBack.{Below};
+ghost use Rattle.ld_trees.specs.Scoping.{Scoped};
 
 use crate::{Printed, print_term, read_term, scope_term};
 use ld_terms::{Decl, Globals, Item, List, Local, Name, Terms, TreeTerms, View};
@@ -18,10 +18,10 @@ fn applied<T: Terms>(
 ) -> Result<T::Handle, AllocError>
     requires left { T.holds terms.old a }
     requires right { T.holds terms.old b }
-    requires closed_left { Below 0 (T.means terms.old a) }
-    requires closed_right { Below 0 (T.means terms.old b) }
+    requires closed_left { Scoped 0 (T.means terms.old a) }
+    requires closed_right { Scoped 0 (T.means terms.old b) }
     ensures held { IfOk result (λ h. T.holds terms.new h) }
-    ensures closed { IfOk result (λ h. Below 0 (T.means terms.new h)) }
+    ensures closed { IfOk result (λ h. Scoped 0 (T.means terms.new h)) }
     ensures kept { Keeps (T.holds terms.old) (T.means terms.old) (T.holds terms.new) (T.means terms.new) }
 {
     terms.make(alloc, View::App(a, b))
@@ -29,7 +29,7 @@ fn applied<T: Terms>(
 
 fn star<T: Terms>(alloc: Global, terms: &mut T) -> Result<T::Handle, AllocError>
     ensures held { IfOk result (λ h. T.holds terms.new h) }
-    ensures closed { IfOk result (λ h. Below 0 (T.means terms.new h)) }
+    ensures closed { IfOk result (λ h. Scoped 0 (T.means terms.new h)) }
     ensures kept { Keeps (T.holds terms.old) (T.means terms.old) (T.holds terms.new) (T.means terms.new) }
 {
     terms.make(alloc, View::Star)
@@ -38,9 +38,9 @@ fn star<T: Terms>(alloc: Global, terms: &mut T) -> Result<T::Handle, AllocError>
 /// `Meta(0, [a])`, which has one node more than `a` and is one deeper.
 fn wrapped<T: Terms>(alloc: Global, terms: &mut T, a: T::Handle) -> Result<T::Handle, AllocError>
     requires held { T.holds terms.old a }
-    requires closed { Below 0 (T.means terms.old a) }
+    requires closed { Scoped 0 (T.means terms.old a) }
     ensures held { IfOk result (λ h. T.holds terms.new h) }
-    ensures closed { IfOk result (λ h. Below 0 (T.means terms.new h)) }
+    ensures closed { IfOk result (λ h. Scoped 0 (T.means terms.new h)) }
 {
     let mut args = Vec::new(alloc);
     args.push(a)?;
@@ -50,7 +50,7 @@ fn wrapped<T: Terms>(alloc: Global, terms: &mut T, a: T::Handle) -> Result<T::Ha
 /// A tree of depth turns + 1 with 2^(turns + 1) - 1 nodes.
 fn balanced<T: Terms>(alloc: Global, terms: &mut T, turns: u64) -> Result<T::Handle, AllocError>
     ensures held { IfOk result (λ h. T.holds terms.new h) }
-    ensures closed { IfOk result (λ h. Below 0 (T.means terms.new h)) }
+    ensures closed { IfOk result (λ h. Scoped 0 (T.means terms.new h)) }
 {
     let mut h = star(alloc, terms)?;
     let mut left = turns;
@@ -64,7 +64,7 @@ fn balanced<T: Terms>(alloc: Global, terms: &mut T, turns: u64) -> Result<T::Han
 /// A tree of this depth, at least 1.
 fn deep<T: Terms>(alloc: Global, terms: &mut T, depth: u64) -> Result<T::Handle, AllocError>
     ensures held { IfOk result (λ h. T.holds terms.new h) }
-    ensures closed { IfOk result (λ h. Below 0 (T.means terms.new h)) }
+    ensures closed { IfOk result (λ h. Scoped 0 (T.means terms.new h)) }
 {
     let mut h = star(alloc, terms)?;
     let mut left = depth;
@@ -169,7 +169,7 @@ fn variable<T: Terms>(alloc: Global, terms: &mut T, i: u32) -> Result<T::Handle,
 fn negated<T: Terms>(alloc: Global, terms: &mut T, a: T::Handle) -> Result<T::Handle, AllocError>
     requires held { T.holds terms.old a }
     ensures held { IfOk result (λ h. T.holds terms.new h) }
-    ensures closed { Below 0 (T.means terms.old a) → IfOk result (λ h. Below 0 (T.means terms.new h)) }
+    ensures closed { Scoped 0 (T.means terms.old a) → IfOk result (λ h. Scoped 0 (T.means terms.new h)) }
     ensures kept { Keeps (T.holds terms.old) (T.means terms.old) (T.holds terms.new) (T.means terms.new) }
 {
     let name = Name::of(alloc, b"not")?;

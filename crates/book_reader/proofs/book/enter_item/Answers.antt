@@ -1,4 +1,4 @@
-use Rattle.std.proofs.Common.{All, ◌∷◌, List, ap₂, ap, subst, sym, ◌∙◌}
+use Rattle.std.proofs.Common.{All, ◌∷◌, List, ap, subst, sym, ◌∙◌}
 use Rattle.ld_trees.specs.Term.{Term}
 use Rattle.ld_terms.specs.declared.globals.Item.{Item}
 use Rattle.conversion.specs.Globals.{IsItemOf}

@@ -1,12 +1,11 @@
-use Rattle.std.proofs.Common.{◌≡◌, All, ◌∙◌, ◌+◌, suc, ap, refl, sym, subst, arith, drop}
-use Rattle.ld_trees.specs.Term.{Term}
+use Rattle.std.proofs.Common.{All, ◌∙◌, ◌+◌, ap, refl, sym, subst, arith}
 use Rattle.conversion.specs.Globals.{IsItemOf}
 use Rattle.meta_context.specs.Plain.{plain_items}
 use Rattle.book_reader.specs.Book.{enter}
 use Rattle.book_reader.specs.Answers.{ShowsBook}
 use Rattle.book_reader.specs.Items.{item}
 use Rattle.book_reader.proofs.Meanings.{keeps_after}
-use Rattle.book_reader.proofs.Entering.{shows_at, passed_on, enter_next, enter_over, faulted, after_step, step_held}
+use Rattle.book_reader.proofs.Entering.{passed_on, enter_over, faulted, after_step, step_held}
 use Rattle.book_reader.proofs.book.enter_items.Goals as goal
 
 pub loop-source-init : goal.loop-source-init

@@ -1,9 +1,8 @@
-use Rattle.std.proofs.Common.{◌≡◌, List, [], Ok, ◌∙◌, ap, refl, sym, subst, None}
+use Rattle.std.proofs.Common.{◌≡◌, [], Ok, ◌∙◌, ap, refl, sym, subst, None}
 use Rattle.ld_trees.specs.Term.{Term}
 use Rattle.ld_terms.specs.Items.{item_named}
 use Rattle.ld_terms.specs.Names.{IsTextName}
 use Rattle.ld_terms.specs.declared.globals.Item.{Item}
-use Rattle.ld_terms.specs.declared.globals.Local.{Local}
 use Rattle.term_syntax.specs.ReadsBack.{IsContext}
 use Rattle.conversion.specs.Globals.{AreLocals}
 use Rattle.meta_context.specs.Entered.{names_of}

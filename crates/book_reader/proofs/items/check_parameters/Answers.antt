@@ -1,6 +1,4 @@
 use Rattle.std.proofs.Common.{◌∙◌, ap, refl, sym, subst, arith, drop, ◌+◌}
-use Rattle.ld_trees.specs.Term.{Term}
-use Rattle.ld_terms.specs.declared.globals.Local.{Local}
 use Rattle.meta_context.specs.Plain.{plain_locals}
 use Rattle.conversion.specs.Globals.{AreLocals}
 use Rattle.book_reader.specs.Items.{parameters, typed}

@@ -1,6 +1,5 @@
-use Rattle.std.proofs.Common.{◌∙◌, ap, sym}
+use Rattle.std.proofs.Common.{◌∙◌, ap}
 use Rattle.conversion.specs.Globals.{context_of}
-use Rattle.kernel_check.specs.Inference.{infer_sort}
 use Rattle.book_reader.specs.Faults.{kernel_fault}
 use Rattle.book_reader.proofs.Follow.{residual, sorted_shows, sorted_gave}
 use Rattle.book_reader.proofs.Meanings.{read_env, read_ctx}

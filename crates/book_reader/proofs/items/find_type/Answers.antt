@@ -1,4 +1,4 @@
-use Rattle.std.proofs.Common.{◌∙◌, ap, sym}
+use Rattle.std.proofs.Common.{◌∙◌, ap}
 use Rattle.conversion.specs.Globals.{context_of}
 use Rattle.book_reader.specs.Faults.{kernel_fault}
 use Rattle.book_reader.proofs.Follow.{residual, kernel_shows, kernel_gave}

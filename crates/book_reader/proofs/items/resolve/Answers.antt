@@ -1,4 +1,4 @@
-use Rattle.std.proofs.Common.{◌∙◌, ap, sym}
+use Rattle.std.proofs.Common.{◌∙◌, ap}
 use Rattle.book_reader.specs.Items.{scoped}
 use Rattle.book_reader.specs.Faults.{scope_fault}
 use Rattle.book_reader.proofs.Follow.{residual, scope_shows}

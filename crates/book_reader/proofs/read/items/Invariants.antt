@@ -1,14 +1,10 @@
-use Rattle.std.proofs.Common.{All, length}
-use Rattle.book_reader.specs.Named.{HasNames}
+use Rattle.std.proofs.Common.{length}
 use Rattle.book_reader.specs.Reading.{items, items_from}
 use Rattle.book_reader.proofs.Turns.{Leads}
 use Rattle.book_reader.proofs.read.items.Given as goal
 
 abbrev pub invariant-more : goal.invariant-more
-invariant-more l = record {
-  leads : Leads (items l.fn.reader) items_from l.found.items l.reader;
-  named : All HasNames l.found.items;
-}
+invariant-more l = Leads (items l.fn.cursor) items_from l.found.items l.cursor
 
 abbrev pub decreases-more : goal.decreases-more
-decreases-more l = length l.reader.ahead
+decreases-more l = length l.cursor.ahead

@@ -5,7 +5,7 @@ use Rattle.term_syntax.specs.Scoping.{applied, arguments, below, scope}
 use Rattle.std.proofs.lemmas.Result.{err_from_is_err_and}
 use Rattle.ld_trees.specs.Term.{Const}
 use Rattle.ld_terms.specs.Views.{terms_of}
-use Rattle.term_text.specs.Scoped.{arities, bound_of, Refuses, IsScoped}
+use Rattle.term_text.specs.Scoped.{arities, bound_of, Refuses, IsResolved}
 use Rattle.term_text.proofs.ScopeNodes.{at_same, at_equal, lam_domain, lam_body, lam_made, pi_domain, pi_codomain, pi_made, app_head, app_spine, const_unfit, const_arguments, const_made}
 use Rattle.term_text.proofs.ScopeLaws.{before_all, each_init, each_turn, spine_init, spine_turn}
 use Rattle.term_text.proofs.scope.+scope.Goals as goal
@@ -123,7 +123,7 @@ scope_node-returns-in_ok-f-in-App-clause-exact g t c =
     let whole = app_spine A N c.args.t.now B c.in-App.f c.in-App.us (g.T.Terms.means c.scope_node.new.terms c.in_ok-f-in-App.f) c.in-App.is (at_same A N (λ o. o ≡ Ok (g.T.Terms.means c.scope_node.new.terms c.in_ok-f-in-App.f)) B c.get.result.now c.in-App.f c.get.ensures c.in_ok-f-in-App.ensures.exact.1)
     ∙ ap (λ us. applied (g.T.Terms.means c.scope_node.new.terms c.in_ok-f-in-App.f) (below B (map (scope A N) us))) (sym c.as_slice-in-App.ensures)
     ∙ ap (λ ls. applied (g.T.Terms.means c.scope_node.new.terms c.in_ok-f-in-App.f) (below (bound_of ls) (map (scope A N) c.as_slice-in-App.result.now))) (sym c.in_ok-f-in-App.ensures.bound) in
-    subst (λ o. IsScoped (g.T.Terms.holds c.scope_spine.new.terms) (g.T.Terms.means c.scope_spine.new.terms) o c.scope_spine.result) (sym whole) c.scope_spine.ensures.exact
+    subst (λ o. IsResolved (g.T.Terms.holds c.scope_spine.new.terms) (g.T.Terms.means c.scope_spine.new.terms) o c.scope_spine.result) (sym whole) c.scope_spine.ensures.exact
 
 pub scope_node-returns-in_ok-make-in-Lam-clause-exact : goal.scope_node-returns-in_ok-make-in-Lam-clause-exact
 scope_node-returns-in_ok-make-in-Lam-clause-exact g t c =
