@@ -1,2 +1,10 @@
 pub mod Indexes
 pub mod PlainItems
+pub mod Stored
+pub mod Numbers
+pub mod Depths
+pub mod Entering
+pub mod Handles
+pub mod Walking
+pub mod Turns
+pub mod Closed

@@ -6,7 +6,7 @@ use Rattle.ld_terms.specs.Views.{terms_of}
 use Rattle.ld_terms.specs.declared.globals.Local.{Local}
 use Rattle.ld_terms.specs.declared.globals.Item.{Item as StoredItem}
 use Rattle.conversion.specs.Globals.{context_of, item_tree, env_of}
-use Rattle.meta_context.specs.Plain.{plain_local, plain_locals, plain_item, plain_items, rules_ctx, rules_env}
+use Rattle.meta_context.specs.Plain.{plain_locals, plain_item, plain_items, rules_ctx, rules_env}
 
 module _ {H : Type 0} (means : H → Term) where
   types_again : (ls : List (Local H)) → map (λ (l : Local Term). l.ty) (plain_locals means ls) ≡ map (λ (l : Local H). means l.ty) ls

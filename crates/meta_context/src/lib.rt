@@ -3,12 +3,18 @@
 #![tactic(auto)]
 
 mod both;
+mod declaring;
 mod env;
+mod fault;
 mod kept;
 mod laws;
 mod metas;
+mod walk;
 
 pub use both::Both;
+pub use declaring::{MOST_DEPTH, assign, declare};
 pub use env::Env;
-pub use laws::plain_items_mean_the_same;
-pub use metas::Metas;
+pub use fault::MetaFault;
+pub use laws::{declarations_compute, declarations_mean_the_same, plain_items_mean_the_same};
+pub use metas::{MOST_METAS, Metas};
+pub use walk::depends;

@@ -1,11 +1,16 @@
-ghost use Rattle.std.specs.Prelude.{◌≡◌, ◌≤◌, [], IfOk, length, slice_get, option_copied};
-ghost use Rattle.meta_context.specs.Entered.{AreDeclared};
+ghost use Rattle.std.specs.Prelude.{◌≡◌, ◌≤◌, ◌<◌, [], ◌∷◌, ◌++◌, IfOk, length, slice_get, option_copied};
+ghost use Rattle.term_syntax.specs.ReadsBack.{IsContext};
+ghost use Rattle.meta_context.specs.Declaring.{assigned};
+ghost use Rattle.meta_context.specs.Entered.{AreDeclared, names_of};
 
 use crate::kept::Kept;
-use ld_terms::Decl;
+use ld_terms::{Decl, List, Local};
 use shared_map::SharedMap;
 use std::alloc::{AllocError, Global};
 use std::marker::Model;
+
+/// How many metavariables there can be.
+pub const MOST_METAS: u32 = 65_536;
 
 /// A metavariable context: the metavariables by their numbers, which count from 0.
 ///
@@ -66,4 +71,52 @@ impl<H: Copy> Metas<H> {
             None => None,
         }
     }
+
+    /// The metavariable context with one more declaration. This one stays as it was. Fails for want of memory alone.
+    pub fn push(&self, alloc: Global, decl: Decl<H>) -> Result<Metas<H>, AllocError>
+        requires room { length self.now < 65536 }
+        requires names { IsContext (names_of decl.ctx) }
+        ensures { IfOk result (λ m. m ≡ self.now ++ decl ∷ []) }
+    {
+        let decl = Kept::new(alloc, decl)?;
+        Ok(Metas {
+            decls: self.decls.with(alloc, self.next(), decl)?,
+        })
+    }
+
+    /// The metavariable context in which a metavariable has a value. This one stays as it was. Fails for want of memory alone.
+    pub fn with_value(&self, alloc: Global, m: u32, value: H) -> Result<Metas<H>, AllocError>
+        requires { m < length self.now }
+        ensures { IfOk result (λ n. n ≡ assigned m value self.now) }
+    {
+        match self.decl(m) {
+            Some(decl) => {
+                let ctx = copy_context(alloc, decl.ctx.as_slice())?;
+                let decl = Decl {
+                    ctx,
+                    ty: decl.ty,
+                    value: Some(value),
+                };
+                let kept = Kept::new(alloc, decl)?;
+                Ok(Metas {
+                    decls: self.decls.with(alloc, m, kept)?,
+                })
+            }
+            None => unreachable!(),
+        }
+    }
+}
+
+/// The same entries once more. Fails for want of memory alone.
+pub fn copy_context<H: Copy>(alloc: Global, ctx: &[Local<H>]) -> Result<List<Local<H>>, AllocError>
+    ensures { IfOk result (λ entries. entries ≡ ctx.now) }
+{
+    let mut entries = Vec::with_capacity(alloc, ctx.len())?;
+    for entry in ctx {
+        entries.push(Local {
+            name: entry.name.copy(alloc)?,
+            ty: entry.ty,
+        })?;
+    }
+    Ok(List::of(entries))
 }

@@ -2,12 +2,12 @@
 use Rattle.std.proofs.Common.{◌≡◌, ℕ, suc, List, Bool, true, ◌||◌, Option, Some, None, refl, sym, ap₂, subst as transport}
 use Rattle.std.proofs.lemmas.Bool.{eq-eqb}
 use Rattle.ld_trees.specs.Term.{Named, Numbered, Head, Term, Srt, Var, App, Lam, Pi, Con, count, Terms, none, ◌▹◌}
-use Rattle.ld_rules.specs.Scoping.{Scoped, AllScoped}
+use Rattle.ld_trees.specs.Scoping.{Scoped, AllScoped}
 use Rattle.ld_rules.specs.Expansion.{Bodies, expand, expanded, expand_all, BodiesScoped}
 use Rattle.ld_rules.proofs.ScopedTerms.{arguments_scoped}
 use Rattle.ld_rules.proofs.Removal.{expand_count}
-use Rattle.meta_laws.specs.Dependencies.{is_meta, occurs, occurs_in}
-use Rattle.meta_laws.proofs.Dependencies.{or_left, or_right}
+use Rattle.meta_trees.specs.Dependencies.{is_meta, occurs, occurs_in}
+use Rattle.meta_trees.proofs.Dependencies.{or_left, or_right}
 
 -- bodies that agree on what occurs in a term expand it alike
 module _ (V W : Bodies) (named : (a : List ℕ) (n : ℕ) → V (Named a) n ≡ W (Named a) n) where

@@ -5,12 +5,12 @@ use Rattle.std.proofs.lemmas.Option.{same_Some}
 use Rattle.ld_trees.specs.Term.{◌▹◌, Term, Terms, none, Numbered}
 use Rattle.ld_rules.specs.Environment.{Env, item_of}
 use Rattle.ld_rules.specs.Derivation.{Derives}
-use Rattle.meta_laws.specs.MetaContext.{decl, Metas, Decl, assign, with_value, unassigned, Keeps, KeepsDecl}
-use Rattle.meta_laws.specs.Dependencies.{parts, and_value, occurs_in, Depends, through, direct}
+use Rattle.meta_trees.specs.MetaContext.{decl, Metas, Decl, assign, with_value, unassigned, Keeps, KeepsDecl}
+use Rattle.meta_trees.specs.Dependencies.{parts, and_value, occurs_in, Depends, through, direct}
 use Rattle.meta_laws.specs.Cut.{cut, order}
 use Rattle.meta_laws.specs.Legality.{IsLegalMetas}
 use Rattle.meta_laws.specs.Laws.{AssigningKeepsLegality, AssigningAddsDependencies}
-use Rattle.meta_laws.proofs.Dependencies.{or_split, depends_more}
+use Rattle.meta_trees.proofs.Dependencies.{or_split, depends_more}
 use Rattle.meta_laws.proofs.Lists.{is_false}
 use Rattle.meta_laws.proofs.Order.{dependency, acyclic, NoCycle, order_is}
 use Rattle.meta_laws.proofs.Items.{unlisted_new, cut_from}

@@ -5,12 +5,12 @@ use Rattle.ld_trees.specs.Term.{◌▹◌, Term, Sort, Srt, Terms}
 use Rattle.ld_rules.specs.Environment.{Env, Ctx}
 use Rattle.ld_rules.specs.Derivation.{Derives}
 use Rattle.ld_rules.proofs.Environments.{newest}
-use Rattle.meta_laws.specs.MetaContext.{declare, decl, Metas, Decl, unassigned, Keeps}
-use Rattle.meta_laws.specs.Dependencies.{parts, occurs, occurs_in, and_value, Depends, direct, through}
+use Rattle.meta_trees.specs.MetaContext.{declare, decl, Metas, Decl, unassigned, Keeps}
+use Rattle.meta_trees.specs.Dependencies.{parts, occurs, occurs_in, and_value, Depends, direct, through}
 use Rattle.meta_laws.specs.Cut.{cut, order}
 use Rattle.meta_laws.specs.Legality.{IsLegalMetas}
 use Rattle.meta_laws.specs.Laws.{DeclaringKeepsLegality}
-use Rattle.meta_laws.proofs.Dependencies.{declared_below, or_left, or_right, or_split}
+use Rattle.meta_trees.proofs.Dependencies.{declared_below, or_left, or_right, or_split}
 use Rattle.meta_laws.proofs.Order.{NoCycle, acyclic}
 use Rattle.meta_laws.proofs.Items.{undeclared_new, cut_from}
 use Rattle.meta_laws.proofs.Legal.{IsSmaller, justified, IsJustified, AreJustified, made_legal}

@@ -7,13 +7,13 @@ use Rattle.ld_rules.specs.ScopedItems.{EachHead, EachHeadOfAll}
 use Rattle.conversion.proofs.Soundness.{yes_means_equal, whnf_is_equal}
 use Rattle.kernel_check.proofs.Soundness.{inference_is_sound, sort_is_sound}
 use Rattle.ld_confluence.specs.Agreement.{AgreeOn}
-use Rattle.meta_laws.specs.MetaContext.{Metas, item, decl}
-use Rattle.meta_laws.specs.Dependencies.{direct, is_meta, Depends, occurs, occurs_in}
+use Rattle.meta_trees.specs.MetaContext.{Metas, item, decl}
+use Rattle.meta_trees.specs.Dependencies.{direct, is_meta, Depends, occurs, occurs_in}
 use Rattle.meta_laws.specs.Cut.{cut}
-use Rattle.meta_laws.specs.Whole.{with_all, whole}
+use Rattle.meta_trees.specs.Whole.{with_all, whole}
 use Rattle.meta_laws.specs.Legality.{IsLegalMetas}
 use Rattle.meta_laws.specs.Laws.{InferenceIsDerived, SortIsDerived, YesIsEqualInTheCut, WeakHeadFormIsEqualInTheCut, InferredTypesDependOnNoMore}
-use Rattle.meta_laws.proofs.Dependencies.{or_split, depends_wider}
+use Rattle.meta_trees.proofs.Dependencies.{or_split, depends_wider}
 use Rattle.meta_laws.proofs.Lists.{is_false}
 use Rattle.meta_laws.proofs.Strengthening.{Has, IsOf, agree, cut_has, all_of}
 use Rattle.meta_laws.proofs.SameConversions.{same_conv, same_whnf}

@@ -4,11 +4,11 @@ use Rattle.ld_trees.specs.Term.{Term, Terms, Star, Var, Pi, Meta, none, ◌▹�
 use Rattle.ld_rules.specs.Environment.{Env}
 use Rattle.ld_rules.specs.Derivation.{Derives, sort, var, weak, form, def, def_prim, inst, no_argument, argument}
 use Rattle.ld_rules.specs.Legality.{IsLegalEnvironment}
-use Rattle.meta_laws.specs.MetaContext.{Decl, Metas, item, assign, declare, unassigned, with_value}
-use Rattle.meta_laws.specs.Dependencies.{Depends, depends, parts}
+use Rattle.meta_trees.specs.MetaContext.{Decl, Metas, item, assign, declare, unassigned, with_value}
+use Rattle.meta_trees.specs.Dependencies.{Depends, depends, parts}
 use Rattle.meta_laws.specs.Legality.{IsLegalMetas}
-use Rattle.meta_laws.specs.Examples.{three, cycle}
-use Rattle.meta_laws.proofs.Dependencies.{reaches_sound, reaches_complete}
+use Rattle.meta_trees.specs.Examples.{three, cycle}
+use Rattle.meta_trees.proofs.Dependencies.{reaches_sound, reaches_complete}
 use Rattle.meta_laws.proofs.Lists.{not_both}
 use Rattle.meta_laws.proofs.Legal.{empty_is_legal}
 use Rattle.meta_laws.proofs.Assigning.{assigning_keeps_legality}

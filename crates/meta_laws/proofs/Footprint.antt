@@ -3,8 +3,8 @@ use Rattle.std.proofs.Common.{◌≡◌, ℕ, zero, suc, ◌+◌, ◌-◌, ◌�
 use Rattle.ld_trees.specs.Term.{◌▹◌, Term, Terms, Numbered, none}
 use Rattle.ld_rules.specs.Environment.{Env}
 use Rattle.ld_confluence.proofs.SubjectReduction.{kept}
-use Rattle.meta_laws.specs.MetaContext.{Metas, decl}
-use Rattle.meta_laws.specs.Dependencies.{Depends, direct, through, occurs}
+use Rattle.meta_trees.specs.MetaContext.{Metas, decl}
+use Rattle.meta_trees.specs.Dependencies.{Depends, direct, through, occurs}
 use Rattle.meta_laws.specs.Legality.{IsLegalMetas}
 use Rattle.meta_laws.specs.Unfolding.{values, value_in, unfold_metas}
 use Rattle.meta_laws.specs.Laws.{DependenciesStay, FootprintStays}

@@ -10,12 +10,12 @@ use Rattle.ld_rules.specs.Extension.{Refines, Extends}
 use Rattle.ld_rules.proofs.Validity.{valid}
 use Rattle.ld_rules.proofs.Environments.{change_environment, equality_is_kept}
 use Rattle.ld_rules.proofs.KnownConstants.{known, known_context, known_valid}
-use Rattle.meta_laws.specs.MetaContext.{Decl, Keeps, KeepsDecl, item, decl, Metas}
-use Rattle.meta_laws.specs.Dependencies.{occurs_in, and_value, parts, Depends, direct, through}
+use Rattle.meta_trees.specs.MetaContext.{Decl, Keeps, KeepsDecl, item, decl, Metas}
+use Rattle.meta_trees.specs.Dependencies.{occurs_in, and_value, parts, Depends, direct, through}
 use Rattle.meta_laws.specs.Cut.{order, cut}
 use Rattle.meta_laws.specs.Legality.{IsLegalMetas}
 use Rattle.meta_laws.specs.Laws.{KeepingIsPreorder, CutsGrow, EqualityGrows, ValuesAreEqual, JudgementsAreOfDependencies}
-use Rattle.meta_laws.proofs.Dependencies.{or_left, declared_below, depends_wider}
+use Rattle.meta_trees.proofs.Dependencies.{or_left, declared_below, depends_wider}
 use Rattle.meta_laws.proofs.Order.{acyclic, order_is, is_dependency}
 use Rattle.meta_laws.proofs.Items.{AreFrom, IsFrom, cut_from, from_extends, listed_found, Found, found_from, all_known_found}
 use Rattle.meta_laws.proofs.Legal.{IsJustified, cuts_are_legal}

@@ -7,11 +7,11 @@ use Rattle.ld_rules.specs.Environment.{Env, item_of, found_at, Item}
 use Rattle.ld_rules.specs.Scoping.{Known, AllKnown}
 use Rattle.ld_rules.specs.Extension.{Refines, Extends}
 use Rattle.ld_rules.proofs.SubstitutionLemma.{refines_itself}
-use Rattle.meta_laws.specs.MetaContext.{decl, Metas, Decl, item}
-use Rattle.meta_laws.specs.Dependencies.{Depends, is_meta, occurs, occurs_in}
+use Rattle.meta_trees.specs.MetaContext.{decl, Metas, Decl, item}
+use Rattle.meta_trees.specs.Dependencies.{Depends, is_meta, occurs, occurs_in}
 use Rattle.meta_laws.specs.Cut.{with_item, listed, items, cut, order}
 use Rattle.meta_laws.specs.Legality.{HasNoMetas}
-use Rattle.meta_laws.proofs.Dependencies.{or_left, or_right, declared_below, or_split}
+use Rattle.meta_trees.proofs.Dependencies.{or_left, or_right, declared_below, or_split}
 use Rattle.meta_laws.proofs.Lists.{is_false, not_both}
 use Rattle.meta_laws.proofs.Order.{Acyclic, order_is, dependency}
 

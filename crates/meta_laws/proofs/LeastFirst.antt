@@ -3,11 +3,11 @@ use Rattle.std.proofs.Common.{◌≡◌, ℕ, zero, suc, ◌<◌, ◌≤◌, Lis
 use Rattle.std.proofs.lemmas.Bool.{eq-eqb, eqb-true}
 use Rattle.std.proofs.lemmas.List.{append-nil}
 use Rattle.ld_trees.specs.Term.{Terms}
-use Rattle.meta_laws.specs.MetaContext.{Metas}
-use Rattle.meta_laws.specs.Dependencies.{below, dependencies, parts_of, Depends, depends}
+use Rattle.meta_trees.specs.MetaContext.{Metas}
+use Rattle.meta_trees.specs.Dependencies.{below, dependencies, parts_of, Depends, depends}
 use Rattle.meta_laws.specs.Cut.{listed, without, possible, all_listed, IsLeastFirst, arrange, chosen, order, IsOrdered, IsCutOrder}
 use Rattle.meta_laws.specs.Laws.{OrderIsUnique}
-use Rattle.meta_laws.proofs.Dependencies.{or_split, or_left, or_right}
+use Rattle.meta_trees.proofs.Dependencies.{or_split, or_left, or_right}
 use Rattle.meta_laws.proofs.Lists.{listed_append, listed_one, below_sound, without_less, not_both, each_all_listed}
 use Rattle.meta_laws.proofs.Order.{moved_listed, possible_some, dependency, is_dependency, order_is, acyclic}
 

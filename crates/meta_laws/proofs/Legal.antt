@@ -5,12 +5,12 @@ use Rattle.ld_rules.specs.Environment.{Env}
 use Rattle.ld_rules.specs.Legality.{MayBeAdded, IsLegalEnvironment}
 use Rattle.ld_rules.specs.Extension.{Extends}
 use Rattle.ld_rules.proofs.Environments.{adding_from_below, newest}
-use Rattle.meta_laws.specs.MetaContext.{Metas, Decl, item, decl}
-use Rattle.meta_laws.specs.Dependencies.{Depends, parts, occurs_in}
+use Rattle.meta_trees.specs.MetaContext.{Metas, Decl, item, decl}
+use Rattle.meta_trees.specs.Dependencies.{Depends, parts, occurs_in}
 use Rattle.meta_laws.specs.Cut.{order, IsOrdered, items, with_item, cut}
 use Rattle.meta_laws.specs.Legality.{HasNoMetas, IsLegalMetas}
 use Rattle.meta_laws.specs.Laws.{OrdersAreLegal, CutsAreLegal, EmptyIsLegal}
-use Rattle.meta_laws.proofs.Dependencies.{parts_are, declared_below}
+use Rattle.meta_trees.proofs.Dependencies.{parts_are, declared_below}
 use Rattle.meta_laws.proofs.Lists.{is_false}
 use Rattle.meta_laws.proofs.Order.{acyclic, order_is, NoCycle, dependency, is_dependency}
 use Rattle.meta_laws.proofs.Items.{AreFrom, declared_at, from_extends, unlisted_new, cut_from}

@@ -1,4 +1,3 @@
-pub mod Dependencies
 pub mod Lists
 pub mod Order
 pub mod LeastFirst
@@ -17,5 +16,4 @@ pub mod SameConversions
 pub mod SameInferences
 pub mod Engines
 pub mod Settling
-pub mod Stored
 pub mod Examples

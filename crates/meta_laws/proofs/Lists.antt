@@ -2,9 +2,9 @@
 use Rattle.std.proofs.Common.{◌≡◌, ℕ, zero, suc, ◌<◌, List, [], ◌∷◌, ◌++◌, inl, inr, Bool, true, false, ◌||◌, refl, sym, ap, ap₂, ◌∙◌, subst as transport, nat_eq, length, arith, if◌then◌else◌}
 use Rattle.std.proofs.lemmas.Bool.{eqb-true, eq-eqb}
 use Rattle.ld_trees.proofs.Equality.{and_left, and_right, and_both}
-use Rattle.meta_laws.specs.Dependencies.{below}
+use Rattle.meta_trees.specs.Dependencies.{below}
 use Rattle.meta_laws.specs.Cut.{listed, all_listed, without}
-use Rattle.meta_laws.proofs.Dependencies.{or_split, or_left, last_or_less, or_right}
+use Rattle.meta_trees.proofs.Dependencies.{or_split, or_left, last_or_less, or_right}
 
 abbrev pub Distinct : List ℕ → Type 0
 Distinct [] = Unit {0}

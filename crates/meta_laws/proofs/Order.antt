@@ -2,10 +2,10 @@
 use Rattle.std.proofs.Common.{◌≡◌, ℕ, zero, suc, ◌<◌, ◌≤◌, List, [], ◌∷◌, inl, inr, Bool, true, false, ◌||◌, Option, Some, None, refl, sym, ap, ◌∙◌, subst as transport, nat_eq, length, arith, if◌then◌else◌}
 use Rattle.std.proofs.lemmas.Bool.{eq-eqb, eqb-true}
 use Rattle.ld_trees.specs.Term.{Terms}
-use Rattle.meta_laws.specs.MetaContext.{Metas, Decl, decl}
-use Rattle.meta_laws.specs.Dependencies.{dependencies, Depends, depends, parts_of, parts, parts_if}
+use Rattle.meta_trees.specs.MetaContext.{Metas, Decl, decl}
+use Rattle.meta_trees.specs.Dependencies.{dependencies, Depends, depends, parts_of, parts, parts_if}
 use Rattle.meta_laws.specs.Cut.{listed, possible, all_listed, order, IsOrdered, without, arrange, chosen}
-use Rattle.meta_laws.proofs.Dependencies.{reaches_sound, reaches_complete, nothing_depends, or_left, or_split, depends_parts, or_right}
+use Rattle.meta_trees.proofs.Dependencies.{reaches_sound, reaches_complete, nothing_depends, or_left, or_split, depends_parts, or_right}
 use Rattle.meta_laws.proofs.Lists.{below_sound, below_complete, not_both, Distinct, without_listed, all_listed_each, without_distinct, or_false, is_false, without_own, without_less, each_all_listed, without_length, below_distinct}
 
 pub dependency : (Σ : Metas) (X : Terms) (k : ℕ) → listed k (dependencies Σ X) ≡ true → (k < length Σ) × Depends Σ X k

@@ -5,17 +5,17 @@ use Rattle.std.proofs.lemmas.Option.{same_Some}
 use Rattle.ld_trees.specs.Term.{◌▹◌, Meta, Term, Terms, Named, count, Head, Numbered, none}
 use Rattle.ld_rules.specs.Environment.{Env}
 use Rattle.ld_rules.specs.Derivation.{Derives}
-use Rattle.ld_rules.specs.Scoping.{Scoped}
+use Rattle.ld_trees.specs.Scoping.{Scoped}
 use Rattle.ld_rules.specs.Expansion.{Bodies, expand, expanded}
 use Rattle.ld_rules.proofs.ScopedJudgements.{in_scope}
 use Rattle.ld_rules.proofs.Environments.{newest}
-use Rattle.meta_laws.specs.MetaContext.{Metas, Decl, decl}
-use Rattle.meta_laws.specs.Dependencies.{below, dependencies, depends, parts, occurs, occurs_in, and_value, Depends, direct}
+use Rattle.meta_trees.specs.MetaContext.{Metas, Decl, decl}
+use Rattle.meta_trees.specs.Dependencies.{below, dependencies, depends, parts, occurs, occurs_in, and_value, Depends, direct}
 use Rattle.meta_laws.specs.Cut.{arrange, possible, without, chosen, order, cut, listed, IsOrdered}
 use Rattle.meta_laws.specs.Legality.{IsLegalMetas}
 use Rattle.meta_laws.specs.Unfolding.{values, value_in, unfold_all_metas}
 use Rattle.meta_laws.specs.Laws.{UnfoldingIsFixed}
-use Rattle.meta_laws.proofs.Dependencies.{or_right, parts_are, or_split, declared_below}
+use Rattle.meta_trees.proofs.Dependencies.{or_right, parts_are, or_split, declared_below}
 use Rattle.meta_laws.proofs.Order.{order_is, acyclic, is_dependency}
 use Rattle.meta_laws.proofs.Growing.{own_dependency}
 use Rattle.meta_laws.proofs.Declaring.{parts_declared}

@@ -9,13 +9,13 @@ use Rattle.ld_rules.proofs.SubstitutionLemma.{legal}
 use Rattle.ld_rules.proofs.Environments.{newest}
 use Rattle.conversion.specs.Runs.{Gave}
 use Rattle.kernel_check.specs.Inference.{infer_sort, infer}
-use Rattle.meta_laws.specs.MetaContext.{Metas, decl, Decl, Keeps}
-use Rattle.meta_laws.specs.Dependencies.{direct, occurs, occurs_in, Depends, and_value}
+use Rattle.meta_trees.specs.MetaContext.{Metas, decl, Decl, Keeps}
+use Rattle.meta_trees.specs.Dependencies.{direct, occurs, occurs_in, Depends, and_value}
 use Rattle.meta_laws.specs.Cut.{cut}
-use Rattle.meta_laws.specs.Whole.{whole}
+use Rattle.meta_trees.specs.Whole.{whole}
 use Rattle.meta_laws.specs.Legality.{IsLegalMetas}
 use Rattle.meta_laws.specs.Laws.{DeclaringIsSound, ExtendingIsSound, SettlingKeepsLegality}
-use Rattle.meta_laws.proofs.Dependencies.{depends_wider, or_left, or_split, or_right}
+use Rattle.meta_trees.proofs.Dependencies.{depends_wider, or_left, or_split, or_right}
 use Rattle.meta_laws.proofs.Growing.{cuts_grow, keeps_itself, judged_dependency, equality_grows}
 use Rattle.meta_laws.proofs.Assigning.{assigning_keeps_legality}
 use Rattle.meta_laws.proofs.Declaring.{declaring_keeps_legality}

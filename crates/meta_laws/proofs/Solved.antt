@@ -16,13 +16,13 @@ use Rattle.ld_rules.proofs.Environments.{items_have_types, newest}
 use Rattle.ld_rules.proofs.KnownConstants.{known, known_context, known_valid}
 use Rattle.ld_rules.proofs.Removal.{removed}
 use Rattle.ld_rules.proofs.RemovalOfLast.{expand_all_known, expand_known}
-use Rattle.meta_laws.specs.MetaContext.{Metas, item, Decl, decl}
-use Rattle.meta_laws.specs.Dependencies.{occurs, occurs_in}
+use Rattle.meta_trees.specs.MetaContext.{Metas, item, Decl, decl}
+use Rattle.meta_trees.specs.Dependencies.{occurs, occurs_in}
 use Rattle.meta_laws.specs.Cut.{items, listed, IsOrdered, with_item, order, cut}
 use Rattle.meta_laws.specs.Legality.{IsLegalMetas, HasNoMetas}
 use Rattle.meta_laws.specs.Unfolding.{values, value_of_root}
 use Rattle.meta_laws.specs.Laws.{UnfoldingRemovesMetas, RootIsProved, SolvedIsProved}
-use Rattle.meta_laws.proofs.Dependencies.{or_right, or_split}
+use Rattle.meta_trees.proofs.Dependencies.{or_right, or_split}
 use Rattle.meta_laws.proofs.Lists.{is_false}
 use Rattle.meta_laws.proofs.Order.{order_is, acyclic, dependency}
 use Rattle.meta_laws.proofs.Items.{items_from, IsFrom, known_found}

@@ -13,12 +13,12 @@ use Rattle.ld_rules.proofs.Environments.{items_have_types, newest}
 use Rattle.ld_rules.proofs.KnownConstants.{known, known_context, known_valid}
 use Rattle.ld_confluence.specs.Agreement.{EachHeadOfItem, AgreeOn}
 use Rattle.ld_confluence.proofs.Strengthening.{strengthening, equality_agrees}
-use Rattle.meta_laws.specs.MetaContext.{Metas, item, decl, Decl}
-use Rattle.meta_laws.specs.Dependencies.{Depends, is_meta, occurs, occurs_in, through, parts, and_value, direct}
+use Rattle.meta_trees.specs.MetaContext.{Metas, item, decl, Decl}
+use Rattle.meta_trees.specs.Dependencies.{Depends, is_meta, occurs, occurs_in, through, parts, and_value, direct}
 use Rattle.meta_laws.specs.Cut.{cut, order}
 use Rattle.meta_laws.specs.Legality.{IsLegalMetas}
 use Rattle.meta_laws.specs.Laws.{DependenciesSuffice, EqualityNeedsDependencies, ContextsAreLegal}
-use Rattle.meta_laws.proofs.Dependencies.{or_left, or_right, depends_wider}
+use Rattle.meta_trees.proofs.Dependencies.{or_left, or_right, depends_wider}
 use Rattle.meta_laws.proofs.Items.{constant_found, undeclared_new, Found, all_known_found, known_found}
 use Rattle.meta_laws.proofs.Legal.{cuts_are_legal}
 use Rattle.meta_laws.proofs.Growing.{dependency_found, judgements_are_of_dependencies, cuts_grow, keeps_itself}

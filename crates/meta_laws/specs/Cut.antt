@@ -2,8 +2,8 @@
 use Rattle.std.specs.Prelude.{◌≡◌, ◌↔◌, ℕ, zero, suc, ◌<◌, ◌≤◌, List, [], ◌∷◌, Option, Some, None, Bool, true, false, ◌&&◌, ◌||◌, nat_eq, length, if◌then◌else◌}
 use Rattle.ld_trees.specs.Term.{Terms}
 use Rattle.ld_rules.specs.Environment.{Env}
-use Rattle.meta_laws.specs.MetaContext.{Decl, Metas, decl, item}
-use Rattle.meta_laws.specs.Dependencies.{parts_of, Depends, dependencies}
+use Rattle.meta_trees.specs.MetaContext.{Decl, Metas, decl, item}
+use Rattle.meta_trees.specs.Dependencies.{parts_of, Depends, dependencies}
 
 abbrev pub listed : ℕ → List ℕ → Bool
 listed k [] = false

@@ -6,21 +6,17 @@ use Rattle.ld_rules.specs.Environment.{Ctx, Env}
 use Rattle.ld_rules.specs.Reduction.{Equal}
 use Rattle.ld_rules.specs.Derivation.{Derives}
 use Rattle.ld_rules.specs.Legality.{IsLegal, IsLegalEnvironment}
-use Rattle.ld_rules.specs.Scoping.{Scoped}
+use Rattle.ld_trees.specs.Scoping.{Scoped}
 use Rattle.conversion.specs.Runs.{Gave}
 use Rattle.conversion.specs.WeakHead.{whnf}
 use Rattle.conversion.specs.Conversion.{conv}
 use Rattle.kernel_check.specs.Inference.{infer, infer_sort}
-use Rattle.meta_laws.specs.MetaContext.{Decl, Metas, decl, assign, declare, Keeps}
-use Rattle.meta_laws.specs.Dependencies.{occurs, Depends, depends}
+use Rattle.meta_trees.specs.MetaContext.{Decl, Metas, decl, assign, declare, Keeps}
+use Rattle.meta_trees.specs.Dependencies.{occurs, Depends, depends}
 use Rattle.meta_laws.specs.Cut.{order, items, cut, IsOrdered, IsCutOrder}
-use Rattle.meta_laws.specs.Whole.{whole}
+use Rattle.meta_trees.specs.Whole.{whole}
 use Rattle.meta_laws.specs.Legality.{HasNoMetas, IsLegalMetas}
 use Rattle.meta_laws.specs.Unfolding.{unfold_metas, unfold_all_metas, value_of_root, AreAssigned, IsSolved}
-
--- the test of dependency decides it
-abbrev pub DependencyIsDecided : Type 0
-DependencyIsDecided = (Σ : Metas) (X : Terms) (k : ℕ) → Depends Σ X k ↔ (depends Σ X k ≡ true)
 
 -- the order of a cut is the one list of exactly the declared dependencies, each after its own, the least possible number first
 abbrev pub OrderIsUnique : Type 0

@@ -3,8 +3,8 @@ use Rattle.std.specs.Prelude.{◌≡◌, ℕ, ◌<◌, ◌∷◌, Some, None, tr
 use Rattle.ld_trees.specs.Term.{Numbered, ◌▹◌}
 use Rattle.ld_rules.specs.Environment.{Env, item_of}
 use Rattle.ld_rules.specs.Legality.{IsLegalEnvironment}
-use Rattle.meta_laws.specs.MetaContext.{Decl, Metas, decl, item}
-use Rattle.meta_laws.specs.Dependencies.{occurs_in, parts, Depends}
+use Rattle.meta_trees.specs.MetaContext.{Decl, Metas, decl, item}
+use Rattle.meta_trees.specs.Dependencies.{occurs_in, parts, Depends}
 use Rattle.meta_laws.specs.Cut.{cut}
 
 -- an environment of constants: no item has the name of a metavariable

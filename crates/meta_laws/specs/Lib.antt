@@ -1,8 +1,4 @@
-pub mod MetaContext
-pub mod Dependencies
 pub mod Cut
-pub mod Whole
-pub mod Stored
 pub mod Legality
 pub mod Unfolding
 pub mod Laws

@@ -2,8 +2,8 @@
 use Rattle.std.specs.Prelude.{◌≡◌, ℕ, zero, suc, Option, Some, None, option_map, nat_eq, length, if◌then◌else◌}
 use Rattle.ld_trees.specs.Term.{Head, Named, Numbered, Term, Meta, Terms, none, count}
 use Rattle.ld_rules.specs.Expansion.{Bodies, expand, expand_all}
-use Rattle.meta_laws.specs.MetaContext.{Decl, Metas, decl}
-use Rattle.meta_laws.specs.Dependencies.{Depends}
+use Rattle.meta_trees.specs.MetaContext.{Decl, Metas, decl}
+use Rattle.meta_trees.specs.Dependencies.{Depends}
 
 -- the value of a declaration at exactly one argument per entry of its context, with some bodies expanded in it
 abbrev pub value_in : Bodies → ℕ → Option Decl → Option Term

@@ -1,13 +1,12 @@
-//! Metavariable contexts: dependencies, the environment cut to them, and legality, with the laws that keep it.
+//! Metavariable contexts: the environment cut to dependencies, and legality, with the laws that keep it.
 //!
-//! `specs/MetaContext.antt` says what is declared of a metavariable, `specs/Dependencies.antt` which metavariables a term depends
-//! on, `specs/Cut.antt` what an environment cut to dependencies is, `specs/Legality.antt` when a metavariable context is legal, and
-//! `specs/Unfolding.antt` what a term is with its assigned metavariables unfolded. There is no call for run time here: each function
-//! below is a law, stated by its contract and proved with the crate.
+//! `specs/Cut.antt` says what an environment cut to dependencies is, `specs/Legality.antt` when a metavariable context is legal, and
+//! `specs/Unfolding.antt` what a term is with its assigned metavariables unfolded; metavariable contexts and dependencies are those
+//! of `meta_trees`. There is no call for run time here: each function below is a law, stated by its contract and proved with the
+//! crate.
 #![tactic(auto)]
 
 ghost use Rattle.meta_laws.specs.Laws.{
-  DependencyIsDecided,
   OrderIsUnique,
   EmptyIsLegal,
   OrdersAreLegal,
@@ -38,20 +37,14 @@ ghost use Rattle.meta_laws.specs.Laws.{
   ExtendingIsSound,
   SettlingKeepsLegality,
 };
-ghost use Rattle.std.specs.Prelude.{◌≡◌, [], ◌∷◌, true, false};
+ghost use Rattle.std.specs.Prelude.{◌≡◌, [], ◌∷◌};
 ghost use Rattle.ld_trees.specs.Term.{Star, Pi, Meta, none, ◌▹◌};
-ghost use Rattle.meta_laws.specs.MetaContext.{assign};
+ghost use Rattle.meta_trees.specs.MetaContext.{assign};
 ghost use Rattle.meta_laws.specs.Unfolding.{unfold_metas, value_of_root};
-ghost use Rattle.meta_laws.specs.Dependencies.{depends, dependencies};
 ghost use Rattle.meta_laws.specs.Cut.{order};
 ghost use Rattle.meta_laws.specs.Legality.{IsLegalMetas};
-ghost use Rattle.meta_laws.specs.Examples.{three, typed_by, cycle, chain};
-
-/// The test of dependency decides whether a metavariable is in the least set of dependencies.
-#[tactic(auto, using(crate::proofs::Dependencies::depends_is))]
-pub fn dependency_is_decided()
-    ensures { DependencyIsDecided }
-{}
+ghost use Rattle.meta_trees.specs.Examples.{three, cycle};
+ghost use Rattle.meta_laws.specs.Examples.{chain};
 
 /// The order of a cut is the one list of exactly the declared dependencies, each after its own, the least possible number first.
 #[tactic(auto, using(crate::proofs::LeastFirst::order_is_unique))]
@@ -224,13 +217,9 @@ pub fn settling_keeps_legality()
     ensures { SettlingKeepsLegality }
 {}
 
-/// Worked examples of dependencies and orders, which the checker computes.
-pub fn dependencies_compute()
+/// Worked examples of orders and unfolding, which the checker computes.
+pub fn orders_compute()
     ensures later_first { order three (none ▹ Meta 0 none) ≡ 0 ∷ 2 ∷ 1 ∷ [] }
-    ensures own { dependencies three (none ▹ Meta 2 none) ≡ 1 ∷ 2 ∷ [] }
-    ensures by_type { depends typed_by (none ▹ Meta 1 none) 0 ≡ true }
-    ensures not_back { depends typed_by (none ▹ Meta 0 none) 1 ≡ false }
-    ensures itself { depends cycle (none ▹ Meta 0 none) 0 ≡ true }
     ensures nothing_possible { order cycle (none ▹ Meta 0 none) ≡ [] }
     ensures unfolds { unfold_metas three (Meta 0 none) ≡ Pi (Meta 1 none) (Meta 1 none) }
     ensures solved { value_of_root (assign 1 Star three) ≡ Pi Star Star }

@@ -5,7 +5,7 @@ use Rattle.ld_rules.specs.Environment.{Env}
 use Rattle.ld_terms.specs.declared.globals.Item.{Item as StoredItem}
 use Rattle.ld_terms.specs.declared.globals.Decl.{Decl as StoredDecl}
 use Rattle.conversion.specs.Globals.{context_of, item_tree}
-use Rattle.meta_laws.specs.MetaContext.{Decl, Metas}
+use Rattle.meta_trees.specs.MetaContext.{Decl, Metas}
 
 abbrev pub decl_of : {H : Type 0} → (H → Term) → StoredDecl H → Decl
 decl_of means d = record { ctx = context_of means d.ctx; ty = means d.ty; value = option_map means d.value }

@@ -1,7 +1,7 @@
 -- Which metavariables a term depends on.
 use Rattle.std.specs.Prelude.{◌≡◌, ℕ, zero, suc, List, [], ◌∷◌, ◌++◌, Option, Some, None, Bool, true, false, ◌&&◌, ◌||◌, nat_eq, length, if◌then◌else◌}
 use Rattle.ld_trees.specs.Term.{Head, Named, Numbered, Term, Srt, Var, App, Lam, Pi, Con, Terms, none, ◌▹◌}
-use Rattle.meta_laws.specs.MetaContext.{Decl, Metas, decl}
+use Rattle.meta_trees.specs.MetaContext.{Decl, Metas, decl}
 
 abbrev pub is_meta : ℕ → Head → Bool
 is_meta k (Named a) = false

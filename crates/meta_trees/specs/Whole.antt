@@ -1,7 +1,7 @@
 -- The environment in which an engine looks up constants and metavariables.
 use Rattle.std.specs.Prelude.{ℕ, suc, [], ◌∷◌}
 use Rattle.ld_rules.specs.Environment.{Env}
-use Rattle.meta_laws.specs.MetaContext.{Metas, item}
+use Rattle.meta_trees.specs.MetaContext.{Metas, item}
 
 -- an environment followed by the items of declarations, the first one with number m
 abbrev pub with_all : ℕ → Metas → Env → Env

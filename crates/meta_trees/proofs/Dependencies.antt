@@ -3,8 +3,8 @@ use Rattle.std.proofs.Common.{◌≡◌, ◌≢◌, ◌↔◌, ℕ, zero, suc, �
 use Rattle.std.proofs.lemmas.Bool.{eqb-true, eqb-false}
 use Rattle.ld_trees.specs.Term.{none, Terms}
 use Rattle.ld_trees.proofs.Equality.{and_left, and_right, and_both}
-use Rattle.meta_laws.specs.MetaContext.{Metas, Decl, decl}
-use Rattle.meta_laws.specs.Dependencies.{occurs_in, depends, Depends, parts, direct, through, parts_of, parts_if, reaches}
+use Rattle.meta_trees.specs.MetaContext.{Metas, Decl, decl}
+use Rattle.meta_trees.specs.Dependencies.{occurs_in, depends, Depends, parts, direct, through, parts_of, parts_if, reaches}
 
 pub or_split : (a b : Bool) → (a || b) ≡ true → (a ≡ true) ⊎ (b ≡ true)
 or_split true b h = inl refl

@@ -1,0 +1,5 @@
+pub mod MetaContext
+pub mod Dependencies
+pub mod Whole
+pub mod Laws
+pub mod Examples
