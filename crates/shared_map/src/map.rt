@@ -68,11 +68,13 @@ impl<K: Ord + Clone, V: Clone> SharedMap<K, V> {
     /// The map in which `key` has `value`, and every other key what it has here. Where a key that compares equal to
     /// `key` is in the map, that key stays and its value is replaced.
     ///
-    /// This map stays as it was. A clone of a key or value must equal it, since one leaf's entries are cloned.
+    /// This map stays as it was, at an error too. A clone of a key or value must equal it, since one leaf's entries are
+    /// cloned.
     ///
     /// # Errors
     ///
-    /// `AllocError` where memory runs out.
+    /// `AllocError` where memory runs out. A map of 18,446,744,073,709,551,615 keys gets no further one: that counts as
+    /// want of memory.
     pub fn with(&self, alloc: Global, key: K, value: V) -> Result<SharedMap<K, V>, AllocError>
         requires keys { IsExact K.is_clone }
         requires values { IsExact V.is_clone }
@@ -90,7 +92,8 @@ impl<K: Ord + Clone, V: Clone> SharedMap<K, V> {
         })
     }
 
-    /// The same map again, for a second owner. It copies the list of nodes and shares everything below it.
+    /// The same map again, for a second owner. It copies the list of nodes and shares everything below it. This map
+    /// stays as it was, at an error too.
     ///
     /// # Errors
     ///

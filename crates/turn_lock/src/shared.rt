@@ -136,6 +136,8 @@ impl<T: Storied> Shared<T> {
         ensures in_time { OnOk result (pass.new.found < MAX_TURNS) }
         ensures worn { IfErr result (λ w. (w.turns ≡ pass.new.found) × (MAX_TURNS ≤ pass.new.found)) }
         ensures unseen { OnErr result (pass.new.seen ≡ pass.old.seen) }
+        // a pass that found the lock worn draws no more
+        ensures worn_stays { MAX_TURNS ≤ pass.old.found → pass.new ≡ pass.old }
     {
         if pass.found >= TURN_LIMIT {
             return Err(Worn { turns: pass.found });

@@ -194,6 +194,8 @@ pub fn steal_one<J: Job, K: Batch<J>, G: Gate>(
     ensures table { IsPassOf (stealer_deque stealer.now) part.new }
     ensures kept { view part.new ≡ account 1 [] (places answers.new.items) }
     ensures gave { AllGave K.jobs J.gives K.told answers.new.items }
+    ensures got { result ≡ true → length answers.new.items ≡ length answers.old.items + 1 }
+    ensures none { result ≡ false → answers.new.items ≡ answers.old.items }
 {
     if answers.reserve(1).is_err() {
         return false;
@@ -215,6 +217,8 @@ impl<J: Job, K: Batch<J>> StealPass<J, K> {
         requires gave { AllGave K.jobs J.gives K.told self.old.answers.items }
         ensures same { stealer_deque self.new.stealer ≡ stealer_deque self.old.stealer }
         ensures gave { AllGave K.jobs J.gives K.told self.new.answers.items }
+        ensures got { result ≡ true → length self.new.answers.items ≡ length self.old.answers.items + 1 }
+        ensures none { result ≡ false → self.new.answers.items ≡ self.old.answers.items }
     {
         steal_one(&self.stealer, &mut self.pass, &mut self.answers, gate, pass)
     }

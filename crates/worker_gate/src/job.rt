@@ -3,11 +3,13 @@ ghost use Rattle.std.specs.Prelude.{ℕ, ⊤};
 
 /// A job, which runs once.
 pub trait Job: Send + Drop {
+    /// The result, which goes back to the caller's thread.
     type Done: Send + Drop;
 
-    // The results that `run` may give.
+    // The results that `run` may give: the job's meaning.
     ghost gives: { Self → Self.Done → Type 0 };
 
+    /// Does the work, on whichever worker has the job, and gives one of the results that the job may give. It uses the job up, so no job runs twice.
     fn run(self) -> Self::Done
         ensures { gives self result };
 }
