@@ -2,7 +2,7 @@
 use Rattle.std.proofs.Common.{◌≡◌, ◌≢◌, ℕ, List, Some, None, Result, Ok, Err, refl, sym, ap, ◌∙◌}
 use Rattle.ld_trees.specs.Term.{Term}
 use Rattle.ld_terms.specs.declared.globals.Item.{Item}
-use Rattle.term_syntax.specs.Scoping.{Scoped}
+use Rattle.term_syntax.specs.Scoping.{Resolved}
 use Rattle.term_syntax.specs.declared.scope_fault.ScopeFault.{ScopeFault}
 use Rattle.term_syntax.specs.declared.scope_fault.ScopeFault.TheVariants as scope
 use Rattle.term_text.specs.Scoped.{Refuses}
@@ -77,7 +77,7 @@ item_scope_is k r (scope.Unsolved at) s = sym (ap (item_refusal k) s)
 item_scope_is k r scope.Memory s = absurd s
 
 -- a refusal of scoping
-pub scope_is : (items : List (Item Term)) (units : ℕ) (o : Scoped Term) (e : ScopeFault) → Refuses o e → e ≢ scope.Memory → scoping None e ≡ resolved items units o
+pub scope_is : (items : List (Item Term)) (units : ℕ) (o : Resolved Term) (e : ScopeFault) → Refuses o e → e ≢ scope.Memory → scoping None e ≡ resolved items units o
 scope_is items units o (scope.UnknownName at name) r not = sym (ap (resolved items units) r)
 scope_is items units o (scope.WrongCount at name given wanted) r not = sym (ap (resolved items units) r)
 scope_is items units o (scope.Unsolved at) r not = sym (ap (resolved items units) r)

@@ -5,7 +5,7 @@ use Rattle.ld_terms.specs.Views.{Keeps}
 use Rattle.ld_terms.specs.declared.globals.Item.{Item}
 use Rattle.term_syntax.specs.Input.{Input, place}
 use Rattle.term_syntax.specs.Reading.{Outcome as Parsed, IsRead}
-use Rattle.term_syntax.specs.Scoping.{Scoped, scope}
+use Rattle.term_syntax.specs.Scoping.{Resolved, scope}
 use Rattle.term_syntax.specs.declared.surface.Surface.{Surface}
 use Rattle.term_text.specs.Scoped.{arities}
 use Rattle.conversion.specs.Globals.{env_of}
@@ -49,7 +49,7 @@ module _ {H : Type 0} (means : H → Term) (items : List (Item H)) (units : ℕ)
 -- ---- environments
 
 -- the reply to a tree, in an environment that was kept
-pub resolved_kept : {H : Type 0} (holds : H → Type 0) (means : H → Term) (holds' : H → Type 0) (means' : H → Term) (items : List (Item H)) (units : ℕ) (o : Scoped Term) (t : Term)
+pub resolved_kept : {H : Type 0} (holds : H → Type 0) (means : H → Term) (holds' : H → Type 0) (means' : H → Term) (items : List (Item H)) (units : ℕ) (o : Resolved Term) (t : Term)
     → Keeps holds means holds' means' → IsStored holds means items → o ≡ Ok t → resolved (plain_items means' items) units (Ok t) ≡ resolved (plain_items means items) units o
 resolved_kept holds means holds' means' items units o t kept stored e = ap (λ is. resolved is units (Ok t)) (items_kept holds means holds' means' kept items stored.held) ∙ sym (ap (resolved (plain_items means items) units) e)
 

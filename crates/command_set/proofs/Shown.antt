@@ -1,4 +1,4 @@
--- The items of a stored environment can be shown.
+-- The items of a stored environment as plain data.
 use Rattle.std.proofs.Common.{◌≡◌, ℕ, suc, ◌+◌, List, [], ◌∷◌, ◌++◌, length, map, take, reverse, slice_get, inl, inr, ◌≤◌, ap₂, Bool, true, false, cond, Option, Some, None, option_map, refl, sym, ap, ◌∙◌, arith, subst}
 use Rattle.std.proofs.Math.Path.{fun_ext}
 use Rattle.std.proofs.lemmas.List.{map-append, reverse-append, length-reverse, map_more}
@@ -10,29 +10,18 @@ use Rattle.reply_text.specs.Context.{shown_names, context_json}
 use Rattle.std.specs.Str.{bytes_eq}
 use Rattle.std.proofs.lemmas.Slice.Eq.{bytes_eq-Decides}
 use Rattle.json.specs.Print.{quoted}
-use Rattle.ld_trees.specs.Term.{Term, Named, Terms, none, ◌▹◌, count}
-use Rattle.ld_rules.specs.Environment.{Ctx, Env}
-use Rattle.ld_rules.specs.Scoping.{Scoped, ContextScoped, IsScoped}
-use Rattle.ld_rules.proofs.ScopedItems.{legal_is_scoped}
+use Rattle.ld_trees.specs.Term.{Term}
 use Rattle.ld_terms.specs.Names.{IsTextName}
 use Rattle.ld_terms.specs.Items.{item_named}
-use Rattle.ld_terms.specs.Views.{terms_onto}
 use Rattle.ld_terms.specs.declared.globals.Local.{Local}
 use Rattle.ld_terms.specs.declared.globals.Item.{Item}
-use Rattle.conversion.specs.Globals.{AreLocals, IsOptional, context_of, item_tree, env_of}
-use Rattle.conversion.proofs.Lookups.{constant_found, item_found_held}
-use Rattle.conversion.proofs.NextSteps.{count_map}
 use Rattle.term_syntax.specs.Lex.{Text}
 use Rattle.term_syntax.specs.ReadsBack.{IsContext}
 use Rattle.term_text.specs.Scoped.{arities}
 use Rattle.meta_context.specs.Entered.{names_of, AreEntered}
 use Rattle.meta_context.specs.Plain.{plain_locals, plain_item, plain_items}
-use Rattle.reply_text.specs.Showable.{AreShown}
 use Rattle.command_set.specs.Inspect.{kind_of, value_of, front, back, item_members, found_item, inspect}
 use Rattle.reply_text.specs.Refusals.{no_item as refuse_name}
-use Rattle.command_set.specs.Shown.{IsShownItem, IsShownBody}
-use Rattle.command_set.specs.Stored.{IsStored}
-use Rattle.command_set.proofs.Below.{below_scoped}
 
 -- the item of a name has that name, which is one of the texts, and its parameters have names of a context
 pub found_entered : {H : Type 0} (items : List (Item H)) (a : Text) (i : Item H) → AreEntered items → item_named items a ≡ Some i → IsTextName a × IsContext (names_of i.params)
@@ -124,34 +113,3 @@ no_item {A = A} xs i e = elim (slice_get_cases (reverse xs) i).1 [
 ] where
   none_or_some : (x : A) → None ≡ Some x → ⊥
   none_or_some x e = cc
-
--- ---- what stands in an item's parameters
-
-prefix_scoped : (us : Terms) (xs : List Term) → ContextScoped (terms_onto us xs) → ContextScoped us
-prefix_scoped us [] h = h
-prefix_scoped us (x ∷ xs) h = (prefix_scoped (us ▹ x) xs h).0
-
-module _ {H : Type 0} (holds : H → Type 0) (means : H → Term) where
-  params_shown : (k : ℕ) (us : Terms) (ls : List (Local H)) → count us ≡ k → AreLocals holds ls → ContextScoped (terms_onto us (map (λ l. means l.ty) ls)) → AreShown holds means k ls
-  params_shown k us [] e a h = tt
-  params_shown k us (l ∷ ls) e a h =
-      let own : ContextScoped (us ▹ means l.ty) = prefix_scoped (us ▹ means l.ty) (map (λ l. means l.ty) ls) h in (
-        record { held = a 0 l (omega arith); closed = below_scoped k (means l.ty) (subst (λ n. Scoped n (means l.ty)) e own.1) },
-        params_shown (k + 1) (us ▹ means l.ty) ls (omega (arith, e)) (λ j d b. a (suc j) d (omega arith)) h,
-      )
-
-  body_shown : (n : ℕ) (Δ : Env) (Γ : Ctx) (o : Option H) → count Γ ≡ n → IsOptional holds o → ((M : Term) → option_map means o ≡ Some M → IsScoped Δ Γ M) → IsShownBody holds means n o
-  body_shown n Δ Γ None e h b = tt
-  body_shown n Δ Γ (Some x) e h b = record { held = h; closed = below_scoped n (means x) (subst (λ n. Scoped n (means x)) e (b (means x) refl).0) }
-
-  pub found_shown : (items : List (Item H)) (a : Text) (i : Item H) → IsStored holds means items → item_named items a ≡ Some i → IsShownItem holds means i
-  found_shown items a i s e =
-      let held = item_found_held holds items a i s.held e in
-      let scoped = (legal_is_scoped (env_of means items []) none s.legal).items (Named a) (item_tree means i) (constant_found means items [] a ∙ ap (option_map (item_tree means)) e) in
-      let counted : count (context_of means i.params) ≡ length i.params = count_map (λ (l : Local H). means l.ty) i.params in
-      record {
-        names = (found_entered items a i s.entered e).1;
-        params = params_shown 0 none i.params refl held.params scoped.params;
-        ty = record { held = held.ty; closed = below_scoped (length i.params) (means i.ty) (subst (λ n. Scoped n (means i.ty)) counted scoped.ty.0) };
-        body = body_shown (length i.params) (env_of means items []) (context_of means i.params) i.body counted held.body scoped.body;
-      }

@@ -4,7 +4,7 @@ use Rattle.ld_trees.specs.Term.{Term, none}
 use Rattle.term_syntax.specs.Lex.{Text}
 use Rattle.term_syntax.specs.Input.{place}
 use Rattle.term_syntax.specs.Reading.{Outcome as Parsed, read}
-use Rattle.term_syntax.specs.Scoping.{Scoped, scope}
+use Rattle.term_syntax.specs.Scoping.{Resolved, scope}
 use Rattle.term_syntax.specs.declared.surface.Surface.{Surface}
 use Rattle.term_text.specs.Scoped.{arities}
 use Rattle.conversion.specs.Runs.{Outcome, Gave, Refused, OutOfFuel}
@@ -27,7 +27,7 @@ inferred t OutOfFuel = out_of_fuel None
 
 module _ (items : List (Item Term)) (fuel : ℕ) where
   -- a term whose names were resolved, or the first that couldn't be
-  abbrev pub resolved : Scoped Term → Members
+  abbrev pub resolved : Resolved Term → Members
   resolved (Ok t) = inferred t (infer (rules_env items) none t fuel)
   resolved (Err fault) = scoping None fault
 

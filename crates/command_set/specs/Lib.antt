@@ -5,4 +5,5 @@ pub mod Echo
 pub mod Books
 pub mod Inspect
 pub mod Values
+pub mod Replies
 pub mod Examples

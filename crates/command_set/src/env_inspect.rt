@@ -1,19 +1,20 @@
 //! `env.inspect` and `env.catalog`.
 
-ghost use Rattle.std.specs.Prelude.{◌≡◌, ◌++◌, IfOk, OnOk, map, reverse, length, option_map};
+ghost use Rattle.std.specs.Prelude.{◌≡◌, ◌++◌, IfOk, OnOk, map, reverse, option_map};
 ghost use Rattle.json.specs.Print.{quoted};
 ghost use Rattle.term_syntax.specs.ReadsBack.{IsContext};
+ghost use Rattle.conversion.specs.Globals.{IsItemOf, IsOptional};
+ghost use Rattle.meta_context.specs.Entered.{names_of};
 ghost use Rattle.meta_context.specs.Plain.{plain_item};
 ghost use Rattle.reply_text.specs.Members.{body_text};
 ghost use Rattle.command_set.specs.Inspect as spec;
-ghost use Rattle.command_set.specs.Shown.{IsShownItem, IsShownBody};
 
 use crate::environment::Environment;
 use ld_terms::{Item, List, Name, Terms};
 use meta_context::Env;
-use repl_json::Body;
+use repl_json::{Body, push_quoted};
 use reply_text::{
-    Member, Members, array_text, context_json, no_item_members, push_quoted, shown_names, term_json,
+    Member, Members, array_text, context_json, no_item_members, shown_names, term_json,
 };
 use std::alloc::{AllocError, Global};
 
@@ -33,7 +34,8 @@ fn front_members<T: Terms>(
     terms: &T,
     item: &Item<T::Handle>,
 ) -> Result<Vec<Member>, AllocError>
-    requires { IsShownItem (T.holds terms.now) (T.means terms.now) item.now }
+    requires names { IsContext (names_of item.now.params) }
+    requires held { IsItemOf (T.holds terms.now) item.now }
     ensures { IfOk result (λ v. v.items ≡ spec.front (plain_item (T.means terms.now) item.now)) }
 {
     let kind = Member::string(alloc, "kind", kind_of(&item.body).as_bytes())?;
@@ -50,7 +52,7 @@ fn push_value<T: Terms>(
     body: Option<T::Handle>,
 ) -> Result<(), AllocError>
     requires names { IsContext names.now }
-    requires shown { IsShownBody (T.holds terms.now) (T.means terms.now) (length names.now) body }
+    requires held { IsOptional (T.holds terms.now) body }
     ensures { OnOk result (members.new.items ≡ members.old.items ++ spec.value_of names.now (option_map (T.means terms.now) body)) }
 {
     match body {
@@ -69,7 +71,8 @@ fn back_members<T: Terms>(
     terms: &T,
     item: &Item<T::Handle>,
 ) -> Result<Vec<Member>, AllocError>
-    requires { IsShownItem (T.holds terms.now) (T.means terms.now) item.now }
+    requires names { IsContext (names_of item.now.params) }
+    requires held { IsItemOf (T.holds terms.now) item.now }
     ensures { IfOk result (λ v. v.items ≡ spec.back (plain_item (T.means terms.now) item.now)) }
 {
     let names = shown_names(alloc, item.params.as_slice())?;
@@ -86,7 +89,8 @@ fn item_members<T: Terms>(
     terms: &T,
     item: &Item<T::Handle>,
 ) -> Result<Members, AllocError>
-    requires { IsShownItem (T.holds terms.now) (T.means terms.now) item.now }
+    requires names { IsContext (names_of item.now.params) }
+    requires held { IsItemOf (T.holds terms.now) item.now }
     ensures { IfOk result (λ m. m ≡ spec.item_members (plain_item (T.means terms.now) item.now)) }
 {
     Ok(Members {

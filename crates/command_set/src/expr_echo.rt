@@ -1,14 +1,10 @@
 //! `expr.echo`.
 
 ghost use Rattle.std.specs.Prelude.{◌≡◌, [], IfOk, Ok};
-ghost use Rattle.ld_trees.specs.Term.{none};
-ghost use Rattle.ld_rules.specs.Scoping.{IsScoped};
-ghost use Rattle.conversion.specs.Globals.{env_of};
 ghost use Rattle.term_syntax.specs.Scoping.{scope};
 ghost use Rattle.term_text.specs.Scoped.{arities};
 ghost use Rattle.meta_context.specs.Plain.{plain_items};
 ghost use Rattle.reply_text.specs.Members.{body_text};
-ghost use Rattle.reply_text.specs.Showable.{Shows};
 ghost use Rattle.command_set.specs.Echo as spec;
 ghost use Rattle.command_set.specs.Stored.{IsStored};
 
@@ -28,8 +24,8 @@ fn typed_members<T: Terms>(
     h: T::Handle,
     ty: T::Handle,
 ) -> Result<Members, AllocError>
-    requires term { Shows (T.holds terms.now) (T.means terms.now) 0 h }
-    requires ty { Shows (T.holds terms.now) (T.means terms.now) 0 ty }
+    requires term { T.holds terms.now h }
+    requires ty { T.holds terms.now ty }
     ensures { IfOk result (λ m. m ≡ spec.typed (T.means terms.now h) (T.means terms.now ty)) }
 {
     let expr = Member::new("expr", term_json(alloc, terms, &[], h)?);
@@ -50,7 +46,6 @@ fn inferred_members<T: Terms>(
 ) -> Result<Members, AllocError>
     requires stored { IsStored (T.holds terms.old) (T.means terms.old) items.now }
     requires term { T.holds terms.old h }
-    requires scoped { IsScoped (env_of (T.means terms.old) items.now []) none (T.means terms.old h) }
     ensures { IfOk result (λ m. m ≡ spec.resolved (plain_items (T.means terms.old) items.now) units (Ok (T.means terms.old h))) }
 {
     let mut fuel = Fuel::new(units);

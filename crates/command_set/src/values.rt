@@ -5,6 +5,7 @@ ghost use Rattle.repl_json.specs.Bad.{bad_body as body_of};
 ghost use Rattle.repl_json.specs.declared.request.Bad.TheVariants.{NotYet};
 ghost use Rattle.state_tree.specs.Value.{Gives, Says, value_at};
 ghost use Rattle.command_set.specs.Values.{value};
+ghost use Rattle.command_set.specs.Replies.{value_reply};
 
 use crate::env_add::add_items;
 use crate::env_inspect::{catalog, inspect};
@@ -135,6 +136,8 @@ impl Work for Program {
             Err(_) => Worked::Memory,
         }
     }
+
+    ghost replies = { value_reply };
 
     ghost env_clones = { λ x y h. h };
 

@@ -1,6 +1,6 @@
 //! Whole books of a shelf.
 
-ghost use Rattle.std.specs.Prelude.{◌≡◌, ℕ, ◌≤◌, ◌<◌, ◌^◌, vec_len, true, false, Ok, Err, IfOk};
+ghost use Rattle.std.specs.Prelude.{◌≡◌, ℕ, ◌≤◌, ◌<◌, vec_len, true, false, Ok, Err, IfOk};
 ghost use Rattle.std.specs.Io.KnownBytes.{IsAtEnd};
 ghost use Rattle.pan_io.specs.Books.{RoseAtOpen};
 ghost use Rattle.pan_io.specs.Faults.{Rose};
@@ -44,7 +44,6 @@ pub fn read_book<H: Shelf>(
     name: &str,
     most: u64,
 ) -> Result<Vec<u8>, Unread>
-    requires room { most < 2 ^ 63 }
     ensures book { IfOk result (λ v. IsBook (H.books shelf.old) name.now v.items × (vec_len v ≤ most)) }
     ensures long { result ≡ Err Unread.TooLong → IsLongBook (H.books shelf.old) name.now most }
     ensures books { H.books shelf.new ≡ H.books shelf.old }
@@ -74,7 +73,6 @@ fn take_part<H: Shelf>(
     requires opened { H.is_open shelf.old ≡ true }
     requires chunk { 0 < vec_len chunk.old }
     requires short { vec_len bytes.old ≤ most }
-    requires room { most < 2 ^ 63 }
     ensures part { IfOk result (λ more. GoesOn (H.left shelf.old) (H.left shelf.new) bytes.old.items bytes.new.items) }
     ensures longer { result ≡ Ok true → vec_len bytes.old < vec_len bytes.new }
     ensures whole { result ≡ Ok false → IsAtEnd (H.left shelf.new) }
@@ -92,8 +90,7 @@ fn take_part<H: Shelf>(
     if count == 0 {
         return Ok(false);
     }
-    let total = bytes.len() as u64 + count as u64;
-    if total > most {
+    if count as u64 > most - bytes.len() as u64 {
         return Err(Unread::TooLong);
     }
     bytes.extend_from_slice(&chunk[..count])?;

@@ -1,5 +1,5 @@
 -- What a session's end says of a run.
-use Rattle.std.proofs.Common.{◌≡◌, ℕ, ◌≤◌, ◌^◌, inl, inr, List, ◌∷◌, length, Option, Some, refl, ap, ◌∙◌, arith, subst}
+use Rattle.std.proofs.Common.{◌≡◌, ℕ, ◌≤◌, ◌^◌, inl, inr, List, [], ◌∷◌, length, Option, Some, refl, sym, ap, ◌∙◌, arith, subst}
 use Rattle.std.specs.Prelude.{IfSome}
 use Rattle.std.proofs.lemmas.List.{length-append, length-map}
 use Rattle.pan_io.specs.Books.{NamedBytes}
@@ -9,14 +9,17 @@ use Rattle.state_tree.specs.Server.{IsLegal}
 use Rattle.command_set.specs.Values.{value}
 use Rattle.command_set.specs.declared.values.NoState.{NoState}
 use Rattle.session_server.specs.Input.{requests_of_input}
-use Rattle.session_server.specs.Entered.{requests_in}
+use Rattle.session_server.specs.Entered.{requests_in, Adds}
+use Rattle.session_server.specs.MemoryLines.{ShowsMemory}
+use Rattle.state_tree.specs.declared.work.Entry.{Entry}
+use Rattle.panto_cli.specs.declared.notes.Outcome.{Outcome}
 use Rattle.session_server.specs.Session.{Session, EntersOf}
 use Rattle.session_server.specs.declared.run.End.{End}
 use Rattle.session_server.specs.declared.run.End.TheVariants as ending
 use Rattle.panto_cli.specs.Books.{Items, Accepts}
 use Rattle.panto_cli.specs.Notes.{IsNote}
 use Rattle.panto_cli.specs.Outcomes.{status_in, line_of, outcome_of}
-use Rattle.panto_cli.specs.Run.{opened, Runs, Completed}
+use Rattle.panto_cli.specs.Run.{opened, Answered, Runs, Completed}
 use Rattle.panto_cli.specs.Status.{status_of}
 use Rattle.panto_cli.specs.declared.status.Status.{Status}
 use Rattle.panto_cli.specs.declared.status.Status.TheVariants.{ReadFault, WriteFault, OpenFault}
@@ -57,14 +60,33 @@ module _ (items : Items) (entries : ℕ) (input left out out' : Option (List ℕ
   note_is books file (ending.Long n) s = refl
   note_is books file ending.Memory s = refl
 
-  pub runs_so : (books : Option (List NamedBytes)) (file : Option Text) → Accepts books file items → IsLegal {S = NoState} value items tree.journal → (end : End) → Ran end → Runs books file entries input left out out' (status_of end)
-  runs_so books file accepts legal ending.Done s = (items, accepts, record { end = ending.Done; named = refl; tree = tree; session = s; legal = legal })
-  runs_so books file accepts legal ending.ReadFault s = (items, accepts, record { end = ending.ReadFault; named = refl; tree = tree; session = s; legal = legal })
-  runs_so books file accepts legal ending.WriteFault s = (items, accepts, record { end = ending.WriteFault; named = refl; tree = tree; session = s; legal = legal })
-  runs_so books file accepts legal (ending.Full n) s = (items, accepts, record { end = ending.Full n; named = refl; tree = tree; session = s; legal = legal })
-  runs_so books file accepts legal (ending.Worn n) s = absurd s.tells
-  runs_so books file accepts legal (ending.Long n) s = (items, accepts, record { end = ending.Long n; named = refl; tree = tree; session = s; legal = legal })
-  runs_so books file accepts legal ending.Memory s = inr (items, accepts, record { end = ending.Memory; named = refl; tree = tree; session = s; legal = legal })
+  pub runs_so : (books : Option (List NamedBytes)) (file : Option Text) → Accepts books file items → IsLegal {S = NoState} value items tree.journal → (end : End) → Ran end → ShowsMemory 0 tree.journal out out' end → Runs books file entries input left out out' (status_of end)
+  runs_so books file accepts legal ending.Done s shown = (items, accepts, record { end = ending.Done; named = refl; tree = tree; session = s; legal = legal; shown = shown })
+  runs_so books file accepts legal ending.ReadFault s shown = (items, accepts, record { end = ending.ReadFault; named = refl; tree = tree; session = s; legal = legal; shown = shown })
+  runs_so books file accepts legal ending.WriteFault s shown = (items, accepts, record { end = ending.WriteFault; named = refl; tree = tree; session = s; legal = legal; shown = shown })
+  runs_so books file accepts legal (ending.Full n) s shown = (items, accepts, record { end = ending.Full n; named = refl; tree = tree; session = s; legal = legal; shown = shown })
+  runs_so books file accepts legal (ending.Worn n) s shown = absurd s.tells
+  runs_so books file accepts legal (ending.Long n) s shown = (items, accepts, record { end = ending.Long n; named = refl; tree = tree; session = s; legal = legal; shown = shown })
+  runs_so books file accepts legal ending.Memory s shown = inr (items, accepts, record { end = ending.Memory; named = refl; tree = tree; session = s; legal = legal; shown = shown })
+
+  own_lines : (end : End) → Ran end → ((es : List Entry) → Adds (opened items entries) tree es → ShowsMemory 0 es out out' end) → ShowsMemory 0 tree.journal out out' end
+  own_lines end s shows = subst (λ es. ShowsMemory 0 es out out' end) (sym (ap (λ (t : TreeModel Items). t.journal) s.adds.grows)) (shows s.entries s.adds)
+
+  -- what a session over a new tree leaves
+  pub answered_so : (old : TreeModel Items) → old.book ≡ items → old.entries ≡ entries → old.journal ≡ [] → (end : End) → Session {S = NoState} value input left old tree out out' end
+      → IsLegal {S = NoState} value tree.book tree.journal → ((es : List Entry) → Adds old tree es → ShowsMemory (length old.journal) es out out' end)
+      → (o : Outcome) → o ≡ outcome_of end → Answered items entries input left out out' (status_in o)
+  answered_so old b e j end s legal shows o is =
+      let same : old ≡ opened items entries = λ i. record { book = b i; entries = e i; journal = j i } in
+      let own : Ran end = subst (λ (g : TreeModel Items). Session {S = NoState} value input left g tree out out' end) same s in
+      record {
+        end = end;
+        named = ap status_in is ∙ status_is end;
+        tree = tree;
+        session = own;
+        legal = subst (λ (b : Items). IsLegal {S = NoState} value b tree.journal) (ap (λ (t : TreeModel Items). t.book) own.adds.grows) legal;
+        shown = own_lines end own (subst (λ (g : TreeModel Items). (es : List Entry) → Adds g tree es → ShowsMemory (length g.journal) es out out' end) same shows);
+      }
 
   -- of an input within its limit, with room for every request
   module _ (bytes : List ℕ) (known : input ≡ Some bytes) (short : length bytes ≤ 2 ^ 40) (room : length (requests_of_input bytes) ≤ entries) where

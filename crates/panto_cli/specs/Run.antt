@@ -11,6 +11,7 @@ use Rattle.state_tree.specs.TreeModel.{TreeModel}
 use Rattle.state_tree.specs.Server.{IsLegal}
 use Rattle.session_server.specs.Input.{requests_of_input}
 use Rattle.session_server.specs.Session.{Session}
+use Rattle.session_server.specs.MemoryLines.{ShowsMemory}
 use Rattle.session_server.specs.declared.run.End.{End}
 use Rattle.panto_cli.specs.Books.{Items, Accepts, Refuses, IsTold}
 use Rattle.panto_cli.specs.Status.{status_of}
@@ -39,12 +40,15 @@ opened items entries = record { book = items; entries = entries; journal = [] }
 
 -- A session over the input answered its requests, as pass 0 of a tree over the book, and ended as the status names. Session says which
 -- requests were entered, and that the output has their replies by the one-thread server. The history that it leaves is legal over the book.
+-- Each reply is a line of the output, and entry i says Memory exactly where line i is the memory line `{"error":"memory","seq":i}`, so that
+-- the requests and the output fix the history. At a write fault the last entries may be without lines.
 pub record Answered (items : Items) (entries : ℕ) (input left out out' : Option (List ℕ)) (status : Status) : Type 0 where
   pub end : End
   pub named : status ≡ status_of end
   pub tree : TreeModel Items
   pub session : Session {S = NoState} value input left (opened items entries) tree out out' end
   pub legal : IsLegal {S = NoState} value items tree.journal
+  pub shown : ShowsMemory 0 tree.journal out out' end
 
 -- a session over the book that the words name
 abbrev pub Serves : Option (List NamedBytes) → Option Text → ℕ → Option (List ℕ) → Option (List ℕ) → Option (List ℕ) → Option (List ℕ) → Status → Type 0

@@ -14,4 +14,8 @@ pub use run::panto_run;
 pub use status::Status;
 
 #[cfg(test)]
+mod bad_input_tests;
+#[cfg(test)]
+mod book_tests;
+#[cfg(test)]
 mod tests;

@@ -1,4 +1,5 @@
 mod JsonLemmas
 mod EachLemmas
 mod ListLemmas
-mod PartLemmas
+pub mod PartLemmas
+pub mod OneLineLemmas

@@ -8,5 +8,7 @@ pub mod Request
 pub mod Names
 pub mod Reply
 pub mod Bad
+pub mod OneLine
+pub mod Laws
 pub mod Parts
 pub mod Examples

@@ -3,6 +3,7 @@
 ghost use Rattle.std.specs.Prelude.{◌≡◌, IfOk};
 ghost use Rattle.repl_json.specs.Bad.{bad_front, bad_body as body_of};
 
+use crate::quote::push_quoted;
 use crate::reply::Body;
 use crate::request::Bad;
 use itoa::Buffer;
@@ -24,17 +25,17 @@ fn bad_front(alloc: Global, bad: &Bad) -> Result<Vec<u8>, AllocError>
         Bad::Json => Vec::from_slice(alloc, b"{\"error\":\"json\",\"seq\":"),
         Bad::Command => Vec::from_slice(alloc, b"{\"error\":\"command\",\"seq\":"),
         Bad::Field { name } => {
-            let mut text = Vec::from_slice(alloc, b"{\"error\":\"field\",\"field\":\"")?;
-            text.extend_from_slice(name.as_slice())?;
-            text.extend_from_slice(b"\",\"seq\":")?;
+            let mut text = Vec::from_slice(alloc, b"{\"error\":\"field\",\"field\":")?;
+            push_quoted(&mut text, name.as_slice())?;
+            text.extend_from_slice(b",\"seq\":")?;
             Ok(text)
         }
         Bad::NotYet => Vec::from_slice(alloc, b"{\"error\":\"notYet\",\"seq\":"),
     }
 }
 
-/// The reply to a line that is no request, with the gap for the number of entries. The name of a field stands in it as it is: the
-/// names that lines are refused with need no escapes. Fails for want of memory alone.
+/// The reply to a line that is no request, with the gap for the number of entries. The name of a field stands in it as a JSON
+/// string. Fails for want of memory alone.
 #[tactic(auto, unfolding(crate::specs::Bad::bad_body))]
 pub fn bad_body(alloc: Global, bad: &Bad) -> Result<Body, AllocError>
     ensures { IfOk result (λ body. body ≡ body_of bad.now) }

@@ -5,11 +5,15 @@ mod asked;
 mod bad;
 mod command;
 mod field;
+#[cfg(test)]
+mod field_tests;
 mod fields;
 mod finish;
+mod laws;
 mod lists;
 mod names;
 mod payload;
+mod quote;
 mod read;
 mod reply;
 mod request;
@@ -21,7 +25,11 @@ mod worked_lines;
 
 pub use bad::bad_body;
 pub use finish::finish_line;
+pub use laws::{
+    bad_bodies_are_replies, memory_is_memory_line, only_memory_is_memory_line, replies_are_lines,
+};
+pub use quote::push_quoted;
 pub use read::read_request;
-pub use reply::{Body, Line, quoted_text};
+pub use reply::{Body, Line};
 pub use request::{Ask, Bad, Request};
 pub use words::is_blank_line;

@@ -1,11 +1,6 @@
 //! Replies before their numbers are known.
 
-ghost use Rattle.std.specs.Prelude.{◌≡◌, IfOk};
-ghost use Rattle.json.specs.Print.{quoted};
-
 use ld_terms::Bytes;
-use serde_json::Value;
-use std::alloc::{AllocError, Global};
 
 /// A reply without its numbers: its pieces, with a gap for the number of entries, and one for a new id where one is made.
 ///
@@ -64,12 +59,4 @@ pub enum Line {
     Memory {
         seq: u64,
     },
-}
-
-/// A text as a JSON string, as `serde_json` writes it compactly. Fails for want of memory alone.
-pub fn quoted_text(alloc: Global, text: &str) -> Result<Vec<u8>, AllocError>
-    ensures { IfOk result (λ v. v.items ≡ quoted text.now) }
-{
-    let value = Value::String(String::from_str(alloc, text)?);
-    value.to_vec(alloc)
 }

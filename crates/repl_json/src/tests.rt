@@ -208,9 +208,8 @@ fn replies_are_written(rt: HostRuntime) -> Result<(), Fail> {
         sink.bytes(),
         b"{\"envs\":1,\"live\":2,\"seq\":3,\"states\":18446744073709551615}\n{\"error\":\"lineTooLong\",\"length\":65537,\"seq\":4}\n".as_slice()
     );
-    assert_eq!(rt;
-        quoted_text(alloc, "a\"\n")?.as_slice(),
-        b"\"a\\\"\\n\"".as_slice()
-    );
+    let mut text = Vec::new(alloc);
+    push_quoted(&mut text, b"a\"\n\x01")?;
+    assert_eq!(rt; text.as_slice(), b"\"a\\\"\\n\\u0001\"".as_slice());
     Ok(())
 }

@@ -1,3 +1,4 @@
 pub mod ContextNames
 pub mod Lists
+pub mod ReplyLines
 pub mod Places

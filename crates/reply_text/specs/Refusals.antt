@@ -50,12 +50,16 @@ wrong_count item at name given wanted = record { before = place at ∷ error (co
 abbrev pub unsolved : Option ℕ → ℕ → Members
 unsolved item at = record { before = place at ∷ error (codes "unsolved") ∷ item_number item; after = [] }
 
+-- want of memory is no refusal, and shows nothing
+abbrev pub nothing : Members
+nothing = record { before = []; after = [] }
+
 -- names that could not be resolved
 unfoldable pub scoping : Option ℕ → ScopeFault → Members
 scoping item (scope.UnknownName at name) = unknown_name item at name
 scoping item (scope.WrongCount at name given wanted) = wrong_count item at name given wanted
 scoping item (scope.Unsolved at) = unsolved item at
-scoping item scope.Memory = plain (codes "memory") None
+scoping item scope.Memory = nothing
 
 -- a refusal of the kernel
 unfoldable pub kernel : Option ℕ → Refusal → Members

@@ -1,18 +1,11 @@
 -- Faults of the kernel over a store, and what of them can be shown.
-use Rattle.std.specs.Prelude.{ℕ, ◌+◌, List, [], ◌∷◌, Option, None, codes}
-use Rattle.ld_terms.specs.declared.globals.Local.{Local}
+use Rattle.std.specs.Prelude.{ℕ, Option}
 use Rattle.ld_trees.specs.Term.{Term}
 use Rattle.kernel_check.specs.declared.fault.KernelFault.{KernelFault}
 use Rattle.kernel_check.specs.declared.fault.KernelFault.TheVariants as fault
 use Rattle.conversion.specs.Runs.{NotType, NotFunction, Mismatch, ReductIllTyped}
-use Rattle.term_syntax.specs.ReadsBack.{Below}
 use Rattle.reply_text.specs.Members.{Members}
-use Rattle.reply_text.specs.Refusals.{kernel, out_of_fuel, plain}
-
--- a term of the store whose variables stand for entries of a context of that length
-pub record Shows {H : Type 0} (holds : H → Type 0) (means : H → Term) (depth : ℕ) (h : H) : Type 0 where
-  pub held : holds h
-  pub closed : Below depth (means h)
+use Rattle.reply_text.specs.Refusals.{kernel, out_of_fuel, nothing}
 
 -- the terms of a fault are terms of the store
 abbrev pub IsShowable : {H : Type 0} → (H → Type 0) → KernelFault H → Type 0
@@ -30,9 +23,4 @@ fault_members means item (fault.NotFunction n t f) = kernel item (NotFunction n 
 fault_members means item (fault.Mismatch n f w) = kernel item (Mismatch n (means f) (means w))
 fault_members means item (fault.ReductIllTyped n t r) = kernel item (ReductIllTyped n (means t) (means r))
 fault_members means item fault.Fuel = out_of_fuel item
-fault_members means item fault.Memory = plain (codes "memory") None
-
--- the type of each entry of a context is a term of the store in the entries before it
-abbrev pub AreShown : {H : Type 0} → (H → Type 0) → (H → Term) → ℕ → List (Local H) → Type 0
-AreShown holds means k [] = Unit {0}
-AreShown holds means k (l ∷ ls) = Shows holds means k l.ty × AreShown holds means (k + 1) ls
+fault_members means item fault.Memory = nothing

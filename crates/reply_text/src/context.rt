@@ -7,13 +7,14 @@ ghost use Rattle.std.specs.Str.{bytes_eq};
 ghost use Rattle.term_syntax.specs.Printing.{entry_text};
 ghost use Rattle.term_syntax.specs.ReadsBack.{IsContext};
 ghost use Rattle.reply_text.specs.Context as spec;
-ghost use Rattle.reply_text.specs.Showable.{Shows, AreShown};
 ghost use Rattle.ld_terms.specs.Names.{IsEntryName};
+ghost use Rattle.conversion.specs.Globals.{AreLocals};
 
 use crate::members::{Member, Members};
-use crate::shown::{level_name, term_json};
+use crate::shown::term_json;
 use ld_terms::{Local, Name, Terms};
 use std::alloc::{AllocError, Global};
+use term_text::level_name;
 
 /// Whether an entry has a name.
 fn has_name<H>(entries: &[Local<H>], name: &Name) -> bool
@@ -35,7 +36,7 @@ fn shown_name<H>(
     ensures { IfOk result (λ n. n ≡ entry_text level name.now (map (λ l. l.name) later.now)) }
 {
     if has_name(later, name) {
-        level_name(alloc, level)
+        level_name(alloc, level as u64)
     } else {
         name.copy(alloc)
     }
@@ -62,7 +63,7 @@ pub fn shown_names<H>(alloc: Global, ctx: &[Local<H>]) -> Result<Vec<Name>, Allo
 }
 
 /// Adds values, each behind a comma.
-#[tactic(auto, using(crate::proofs::Lists::flat_map_more))]
+#[tactic(auto, using(repl_json::proofs::PartLemmas::flat_map_more))]
 fn push_rest(out: &mut Vec<u8>, values: &[Vec<u8>]) -> Result<(), AllocError>
     ensures { OnOk result (out.new.items ≡ out.old.items ++ flat_map (λ y. 44 ∷ y) (map (λ x. x.items) values.now)) }
 {
@@ -106,7 +107,7 @@ fn entry_json<T: Terms>(
     ty: T::Handle,
 ) -> Result<Vec<u8>, AllocError>
     requires context { IsContext before.now }
-    requires shows { Shows (T.holds terms.now) (T.means terms.now) (length before.now) ty }
+    requires held { T.holds terms.now ty }
     ensures { IfOk result (λ v. v.items ≡ spec.entry_json before.now name.now (T.means terms.now ty)) }
 {
     let name = Member::string(alloc, "name", name.as_bytes())?;
@@ -124,7 +125,7 @@ fn entry_at<T: Terms>(
 ) -> Result<Vec<u8>, AllocError>
     requires context { IsContext names.now }
     requires counted { length names.now ≡ length ctx.now }
-    requires shown { AreShown (T.holds terms.now) (T.means terms.now) 0 ctx.now }
+    requires held { AreLocals (T.holds terms.now) ctx.now }
     requires within { place < length ctx.now }
     ensures { IfOk result (λ v. v.items ≡ spec.entry_json (take place names.now) (slice_index_or names.now place []) (slice_index_or (map (λ l. T.means terms.now l.ty) ctx.now) place Star)) }
 {
@@ -139,7 +140,7 @@ pub fn context_json<T: Terms>(
     ctx: &[Local<T::Handle>],
 ) -> Result<Vec<u8>, AllocError>
     requires context { IsContext (map (λ l. l.name) ctx.now) }
-    requires shown { AreShown (T.holds terms.now) (T.means terms.now) 0 ctx.now }
+    requires held { AreLocals (T.holds terms.now) ctx.now }
     ensures { IfOk result (λ v. v.items ≡ spec.context_json (map (λ l. l.name) ctx.now) (map (λ l. T.means terms.now l.ty) ctx.now)) }
 {
     let names = shown_names(alloc, ctx)?;

@@ -5,14 +5,12 @@ mod context;
 mod examples;
 mod laws;
 mod members;
-mod quote;
 mod refusals;
 mod shown;
 
 pub use context::{array_text, context_json, shown_names};
 pub use laws::{level_names_fit, shown_names_fit};
 pub use members::{Member, Members};
-pub use quote::push_quoted;
 pub use refusals::{
     fault_members, fuel_members, no_item_members, scope_members, syntax_members, taken_members,
 };

@@ -4,10 +4,9 @@ ghost use Rattle.std.specs.Prelude.{◌≡◌, ◌++◌, [], ◌∷◌, flat_map
 ghost use Rattle.reply_text.specs.Members as spec;
 ghost use Rattle.reply_text.specs.Members.{member_text, members_text, behind_comma, body_text, object_text};
 
-use crate::quote::push_quoted;
 use itoa::Buffer;
 use ld_terms::List;
-use repl_json::Body;
+use repl_json::{Body, push_quoted};
 use std::alloc::{AllocError, Global};
 use std::marker::Model;
 
@@ -72,7 +71,7 @@ fn push_member(out: &mut Vec<u8>, member: &Member) -> Result<(), AllocError>
 }
 
 /// Adds members, each behind a comma.
-#[tactic(auto, using(crate::proofs::Lists::flat_map_more))]
+#[tactic(auto, using(repl_json::proofs::PartLemmas::flat_map_more))]
 fn push_behind_commas(out: &mut Vec<u8>, members: &[Member]) -> Result<(), AllocError>
     ensures { OnOk result (out.new.items ≡ out.old.items ++ flat_map behind_comma members.now) }
 {

@@ -1,16 +1,14 @@
 //! Terms in replies.
 
 ghost use Rattle.std.specs.Prelude.{◌≡◌, ◌<◌, IfOk};
-ghost use Rattle.ld_terms.specs.Names.{level_name};
 ghost use Rattle.term_syntax.specs.ReadsBack.{IsContext};
 ghost use Rattle.reply_text.specs.Shown as spec;
 
 use crate::members::{Member, Members};
-use crate::quote::push_quoted;
-use itoa::Buffer;
 use ld_terms::{Name, Terms};
+use repl_json::push_quoted;
 use std::alloc::{AllocError, Global};
-use term_text::{Printed, print_term};
+use term_text::{Printed, level_name, print_term};
 
 /// The JSON text of a term in a context of named entries: its printed text as a string, or its size as an object where it has more
 /// than 65,536 nodes or a depth above 512. Fails for want of memory alone.
@@ -46,16 +44,6 @@ fn size_json(alloc: Global, depth: u64, nodes: u64) -> Result<Vec<u8>, AllocErro
     Members::before(alloc, before).to_object(alloc)
 }
 
-/// The level name `%k` of an entry.
-pub fn level_name(alloc: Global, level: u32) -> Result<Name, AllocError>
-    ensures { IfOk result (λ n. n ≡ level_name level) }
-{
-    let mut buffer = Buffer::new();
-    let mut bytes = vec![in alloc; b'%']?;
-    bytes.extend_from_slice(buffer.format(level).as_bytes())?;
-    Name::of(alloc, &bytes)
-}
-
 /// The level names of a context of so many entries. Fails for want of memory alone.
 #[tactic(auto, using(crate::proofs::Lists::levels_more))]
 pub fn level_names(alloc: Global, depth: u32) -> Result<Vec<Name>, AllocError>
@@ -63,7 +51,7 @@ pub fn level_names(alloc: Global, depth: u32) -> Result<Vec<Name>, AllocError>
 {
     let mut names = Vec::new(alloc);
     for level in 0..depth {
-        names.push(level_name(alloc, level)?)?;
+        names.push(level_name(alloc, level as u64)?)?;
     }
     Ok(names)
 }

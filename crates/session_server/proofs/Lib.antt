@@ -2,3 +2,4 @@ pub mod Fit
 pub mod AnswerLemmas
 pub mod InputLemmas
 pub mod SessionLemmas
+pub mod MemoryLemmas

@@ -1,5 +1,6 @@
 pub mod Input
 pub mod Entered
 pub mod Session
+pub mod MemoryLines
 pub mod Answers
 pub mod Progress

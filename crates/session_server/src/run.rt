@@ -1,9 +1,12 @@
 //! The loop over the lines of an input.
 
-ghost use Rattle.std.specs.Prelude.{◌≡◌, ◌≤◌, ◌^◌, List, ℕ, Option, ◌⊎◌, is_some};
+ghost use Rattle.std.specs.Prelude.{◌≡◌, ◌≤◌, ◌^◌, List, ℕ, length, Option, ◌⊎◌, is_some};
 ghost use Rattle.pan_io.specs.Faults.{Rose};
 ghost use Rattle.state_tree.specs.TreeModel.{TreeModel};
+ghost use Rattle.state_tree.specs.declared.work.Entry.{Entry};
 ghost use Rattle.session_server.specs.Session.{Session};
+ghost use Rattle.session_server.specs.Entered.{Adds};
+ghost use Rattle.session_server.specs.MemoryLines.{ShowsMemory};
 ghost use Rattle.session_server.specs.Progress.{Runs, Steps, step_of};
 
 use crate::answer::Halt;
@@ -82,7 +85,8 @@ fn answer_next<W: Work, S: Source, K: Sink>(
 /// Answers the requests of an input, as pass 0, until the input ends or the session can't go on.
 ///
 /// The entries added are, in order and each once, requests of the input by the end: at `Done` all of them. What was written is the
-/// replies of the one-thread server to these entries. The book and the number of entries stay.
+/// replies of the one-thread server to these entries, a line each, so that the memory lines in it tell which entries say `Memory`. The
+/// book and the number of entries stay.
 pub fn run_session<W: Work, S: Source, K: Sink>(
     alloc: Global,
     work: &W,
@@ -92,6 +96,9 @@ pub fn run_session<W: Work, S: Source, K: Sink>(
 ) -> End
     // Which entries were added and what was written, by the end. It is never `Worn`.
     ensures session { Session W.value (S.left source.old) (S.left source.new) tree.old tree.new (K.taken sink.old) (K.taken sink.new) result }
+    // Which of them say `Memory`: exactly those whose lines are memory lines.
+    ensures shown { (entries : List Entry) → Adds tree.old tree.new entries →
+        ShowsMemory (length tree.old.journal) entries (K.taken sink.old) (K.taken sink.new) result }
     // The causes of faults.
     ensures read { result ≡ End.ReadFault → Rose (S.faults source.old) (S.faults source.new) }
     ensures write { result ≡ End.WriteFault → Rose (K.faults sink.old) (K.faults sink.new) }
@@ -101,13 +108,18 @@ pub fn run_session<W: Work, S: Source, K: Sink>(
     ensures later_in { S.faults source.old ≤ S.faults source.new }
     ensures later_out { K.faults sink.old ≤ K.faults sink.new }
 {
+    // The length tells that the entries are a legal history.
+    let _length = tree.length();
     let Ok(mut lines) = Lines::new(alloc) else {
         return End::Memory;
     };
     'lines: loop {
         match answer_next(alloc, work, tree, &mut lines, source, sink) {
             Step::Next => {}
-            Step::Stop(end) => return end,
+            Step::Stop(end) => {
+                let _length = tree.length();
+                return end;
+            }
         }
     }
 }

@@ -3,6 +3,7 @@
 ghost use Rattle.std.specs.Prelude.{◌≡◌, None, IfOk};
 ghost use Rattle.std.proofs.Common.{rules};
 ghost use Rattle.state_tree.specs.Toy.{said_body};
+ghost use Rattle.state_tree.specs.ToyReplies.{said_is_reply};
 ghost use Rattle.state_tree.specs.Value.{Says};
 
 use crate::{End, run_session};
@@ -45,6 +46,8 @@ impl Work for Toy {
             Err(_) => Worked::Memory,
         }
     }
+
+    ghost replies = { λ ask found. said_is_reply };
 
     ghost env_clones = { λ x y h. h };
 

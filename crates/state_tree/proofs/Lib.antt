@@ -6,3 +6,4 @@ pub mod EnteringLemmas
 pub mod Looks
 pub mod Stays
 pub mod Later
+pub mod Shown

@@ -6,5 +6,7 @@ pub mod Results
 pub mod Prepared
 pub mod TreeModel
 pub mod Enters
+pub mod Replies
 pub mod Laws
 pub mod Toy
+pub mod ToyReplies

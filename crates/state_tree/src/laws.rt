@@ -1,5 +1,6 @@
 //! The laws of the tree that the layers above use. Nothing here is called at run time.
 
+ghost use Rattle.state_tree.specs.Replies.{RepliesAreShown};
 ghost use Rattle.state_tree.specs.Laws.{LooksHold, FoundStays, LookedUpIsEntered, GivenUpIsEntered};
 
 use crate::work::Work;
@@ -22,4 +23,9 @@ pub fn looked_up_is_entered<W: Work>()
 /// A request that was given up is entered, unless the journal is full.
 pub fn given_up_is_entered<W: Work>()
     ensures { GivenUpIsEntered W.Env W.State }
+{}
+
+/// Each reply is one line. It is the memory line of its number exactly where its entry says `Memory`.
+pub fn replies_are_shown<W: Work>()
+    ensures { RepliesAreShown W.value }
 {}

@@ -18,7 +18,9 @@ mod tree;
 mod work;
 mod worked_rows;
 
-pub use laws::{found_stays, given_up_is_entered, looked_up_is_entered, looks_hold};
+pub use laws::{
+    found_stays, given_up_is_entered, looked_up_is_entered, looks_hold, replies_are_shown,
+};
 pub use ready::{Ready, make_ready, refuse_ready};
 pub use tree::{Outcome, Tree};
 pub use work::{Entry, Found, Gave, Work, Worked};

@@ -4,6 +4,7 @@ ghost use Rattle.std.specs.Prelude.{◌≡◌, false, IfOk};
 ghost use Rattle.state_tree.specs.Again.{is_bad};
 ghost use Rattle.state_tree.specs.Toy.{toy_value, said_body, state_body, env_body};
 ghost use Rattle.state_tree.specs.Value.{Gives, value_at};
+ghost use Rattle.state_tree.specs.ToyReplies.{toy_replies};
 
 use crate::{Found, Gave, Outcome, Tree, Work, Worked, make_ready, refuse_ready};
 use ld_terms::List;
@@ -81,6 +82,8 @@ impl Work for Toy {
             Err(_) => Worked::Memory,
         }
     }
+
+    ghost replies = { toy_replies };
 
     ghost env_clones = { λ x y h. h };
 

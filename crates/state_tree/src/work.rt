@@ -3,6 +3,7 @@
 ghost use Rattle.std.specs.Prelude.{◌≡◌};
 ghost use Rattle.repl_json.specs.declared.request.Ask.{Ask};
 ghost use Rattle.state_tree.specs.Value.{Value, Gives, value_at};
+ghost use Rattle.state_tree.specs.Replies.{SaysReply};
 ghost use Rattle.state_tree.specs.Results.{gave_by};
 ghost use Rattle.state_tree.specs.declared.work.Found.{Found};
 
@@ -67,6 +68,9 @@ pub trait Work {
         found: &Found<Self::Env, Self::State>,
     ) -> Worked<Self::Env, Self::State>
         ensures { Gives (value_at value request.now.ask found.now) result };
+
+    /// Each reply is one line, and none is the memory line, whatever its numbers are.
+    ghost replies: { (ask : Ask) (found : Found Self.Env Self.State) → SaysReply (value ask found) };
 
     /// A clone equals what it was made from.
     ghost env_clones: { (x y : Self.Env) → Self.Env.is_clone x y → y ≡ x };

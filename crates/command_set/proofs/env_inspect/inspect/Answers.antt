@@ -1,11 +1,18 @@
 use Rattle.std.proofs.Common.{◌≡◌, ◌∙◌, sym, ap, subst, IfOk}
 use Rattle.reply_text.specs.Members.{body_text}
 use Rattle.ld_terms.specs.Items.{item_named}
-use Rattle.command_set.proofs.Shown.{found_shown, shown_item, shown_none}
+use Rattle.conversion.proofs.Lookups.{item_found_held}
+use Rattle.command_set.proofs.Shown.{found_entered, shown_item, shown_none}
 use Rattle.command_set.proofs.env_inspect.inspect.Goals as goal
 
 pub item_members-requires : goal.item_members-requires
-item_members-requires g c = found_shown (g.T.Terms.holds c.stored-stored.result.now.terms) (g.T.Terms.means c.stored-stored.result.now.terms) c.stored-stored.result.now.items c.in_ok-wanted.wanted c.in-Some.item.now c.stored-stored.ensures.stored (sym c.in-Some.ensures)
+item_members-requires g c =
+    let items = c.stored-stored.result.now.items in
+    let stored = c.stored-stored.ensures.stored in
+    record {
+      names = (found_entered items c.in_ok-wanted.wanted c.in-Some.item.now stored.entered (sym c.in-Some.ensures)).1;
+      held = item_found_held (g.T.Terms.holds c.stored-stored.result.now.terms) items c.in_ok-wanted.wanted c.in-Some.item.now stored.held (sym c.in-Some.ensures);
+    }
 
 pub returns-in-Some : goal.returns-in-Some
 returns-in-Some g c =

@@ -1,36 +1,22 @@
 use Rattle.std.proofs.Common.{◌≡◌, ◌≢◌, ◌∙◌, sym, subst, IfOk, [], None, Ok}
-use Rattle.ld_rules.specs.Legality.{IsLegal}
-use Rattle.ld_rules.specs.Scoping.{IsScoped}
 use Rattle.conversion.specs.Globals.{context_of, env_of}
 use Rattle.conversion.specs.Runs.{Gave}
-use Rattle.term_syntax.specs.ReadsBack.{Below}
 use Rattle.kernel_check.specs.Inference.{infer}
 use Rattle.kernel_check.specs.Answers.{Shows as ShowsOutcome}
 use Rattle.kernel_check.specs.declared.fault.KernelFault.TheVariants as fault
 use Rattle.meta_context.specs.Plain.{plain_items}
 use Rattle.reply_text.specs.Showable.{fault_members}
 use Rattle.command_set.specs.Echo.{resolved}
-use Rattle.command_set.proofs.Below.{below_scoped}
 use Rattle.command_set.proofs.Answered.{showable}
 use Rattle.command_set.proofs.Echoed.{type_is, refusal_is}
 use Rattle.command_set.proofs.Results.{both_ok}
 use Rattle.command_set.proofs.expr_echo.inferred_members.Goals as goal
 
 pub typed_members-requires-clause-term : goal.typed_members-requires-clause-term
-typed_members-requires-clause-term g c =
-    let m0 = g.T.Terms.means c.args.terms.now in
-    let k = c.infer.ensures.kept c.args.h c.requires.term in
-    record { held = k.0; closed = subst (Below 0) (sym k.1) (below_scoped 0 (m0 c.args.h) c.requires.scoped.0) }
+typed_members-requires-clause-term g c = (c.infer.ensures.kept c.args.h c.requires.term).0
 
 pub typed_members-requires-clause-ty : goal.typed_members-requires-clause-ty
-typed_members-requires-clause-ty g c =
-    let m0 = g.T.Terms.means c.args.terms.now in
-    let m = g.T.Terms.means c.infer.new.terms in
-    let Δ = env_of m0 c.args.items.now [] in
-    let e : c.deref.result.now ≡ [] = c.deref.ensures.value ∙ c.new-closed.ensures.items in
-    let legal = subst (λ ls. IsLegal Δ (context_of m0 ls)) (sym e) c.requires.stored.legal in
-    let s = subst (λ ls. IsScoped Δ (context_of m0 ls) (m c.in-Ok.ty)) e (c.in-Ok.ensures.scoped legal) in
-    record { held = c.in-Ok.ensures.held; closed = below_scoped 0 (m c.in-Ok.ty) s.0 }
+typed_members-requires-clause-ty g c = c.in-Ok.ensures.held
 
 pub fault_members-requires : goal.fault_members-requires
 fault_members-requires g c = record { showable = showable (g.T.Terms.holds c.infer.new.terms) (g.T.Terms.means c.infer.new.terms) _ _ c.in-Err.fault c.in-Err.ensures.value }

@@ -1,14 +1,10 @@
 use Rattle.std.proofs.Common.{◌≡◌, subst, IfOk}
 use Rattle.command_set.proofs.Kept.{stored_kept}
-use Rattle.command_set.proofs.Resolved.{resolved_scoped}
 use Rattle.command_set.proofs.Echoed.{resolved_kept}
 use Rattle.command_set.proofs.expr_echo.resolved_members.Goals as goal
 
 pub inferred_members-requires-clause-stored : goal.inferred_members-requires-clause-stored
 inferred_members-requires-clause-stored g c = stored_kept (g.T.Terms.holds c.args.terms.now) (g.T.Terms.means c.args.terms.now) (g.T.Terms.holds c.scope_term.new.terms) (g.T.Terms.means c.scope_term.new.terms) c.scope_term.ensures.kept c.args.items.now c.requires.stored
-
-pub inferred_members-requires-clause-scoped : goal.inferred_members-requires-clause-scoped
-inferred_members-requires-clause-scoped g c = resolved_scoped (g.T.Terms.means c.scope_term.new.terms) c.args.items.now c.requires.stored.entered c.args.surface.now (g.T.Terms.means c.scope_term.new.terms c.in-Ok.h) c.in-Ok.ensures.exact.1
 
 pub returns-in-Ok : goal.returns-in-Ok
 returns-in-Ok g c =

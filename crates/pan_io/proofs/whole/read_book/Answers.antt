@@ -7,7 +7,6 @@ pub parts-init : goal.parts-init
 parts-init g c = record {
   chunk = c.in_ok-chunk.ensures.len;
   short = omega (arith, c.new-bytes.ensures.len);
-  room = c.requires.room;
   opened = c.in-Ok.ensures.opened;
   part = rw c.new-bytes.ensures.items (at_start _ _ _ c.in-Ok.ensures.left);
   books = c.in-Ok.ensures.books;

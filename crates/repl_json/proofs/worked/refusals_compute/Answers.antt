@@ -1,5 +1,6 @@
 use Rattle.std.proofs.Common.{refl}
 use Rattle.std.specs.Fmt.{digits}
+use Rattle.json.specs.Print.{escape_byte}
 use Rattle.repl_json.specs.Bad.{bad_body}
 use Rattle.repl_json.proofs.worked.refusals_compute.Goals as goal
 
@@ -16,7 +17,7 @@ unfolding bad_body digits
 returns-clause-command c = refl
 
 pub returns-clause-field : goal.returns-clause-field
-unfolding bad_body digits
+unfolding bad_body digits escape_byte
 returns-clause-field c = refl
 
 pub returns-clause-not_yet : goal.returns-clause-not_yet

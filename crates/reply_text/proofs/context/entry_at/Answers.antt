@@ -1,20 +1,15 @@
 use Rattle.std.proofs.Common.{◌≡◌, ◌<◌, map, take, length, get_or, sym, ◌∙◌, arith, subst, IfOk, []}
 use Rattle.ld_trees.specs.Term.{Star}
 use Rattle.reply_text.specs.Context.{entry_json}
-use Rattle.reply_text.specs.Showable.{Shows}
 use Rattle.reply_text.proofs.ContextNames.{context_taken}
-use Rattle.reply_text.proofs.Places.{shown_at, taken, default_free, type_at}
+use Rattle.reply_text.proofs.Places.{default_free, type_at}
 use Rattle.reply_text.proofs.context.entry_at.Goals as goal
 
 pub entry_json-requires-clause-context : goal.entry_json-requires-clause-context
 entry_json-requires-clause-context g c = context_taken c.args.place c.args.names.now c.requires.context
 
-pub entry_json-requires-clause-shows : goal.entry_json-requires-clause-shows
-entry_json-requires-clause-shows g c =
-    let within : c.args.place < length c.args.names.now = omega (arith, c.requires.within, c.requires.counted) in
-    let same : c.args.place ≡ length (take c.args.place c.args.names.now) = sym (taken c.args.place c.args.names.now within) in
-    subst (λ n. Shows (g.T.Terms.holds c.args.terms.now) (g.T.Terms.means c.args.terms.now) n (get_or c.args.ctx.now c.args.place c.index-ctx-place.result).ty) same
-    (shown_at (g.T.Terms.holds c.args.terms.now) (g.T.Terms.means c.args.terms.now) c.args.place c.args.ctx.now c.index-ctx-place.result c.requires.shown c.requires.within)
+pub entry_json-requires-clause-held : goal.entry_json-requires-clause-held
+entry_json-requires-clause-held g c = c.requires.held c.args.place c.index-ctx-place.result c.requires.within
 
 pub returns : goal.returns
 returns g c =

@@ -1,5 +1,7 @@
 use Rattle.std.proofs.Common.{arith, refl, ◌∙◌}
+use Rattle.state_tree.proofs.Shown.{replies_shown}
 use Rattle.session_server.proofs.SessionLemmas.{along_none, memory_first}
+use Rattle.session_server.proofs.MemoryLemmas.{session_shows}
 use Rattle.session_server.proofs.run.run_session.Goals as goal
 
 pub lines-init : goal.lines-init
@@ -31,3 +33,13 @@ lines-preserved g c =
 
 pub returns-in_default-clause-session : goal.returns-in_default-clause-session
 returns-in_default-clause-session g c = memory_first g.W.Work.value _ _ _
+
+pub returns-in_default-clause-shown : goal.returns-in_default-clause-shown
+returns-in_default-clause-shown g c =
+    let left = g.S.Source.left c.args.source.now in
+    let out = g.K.Sink.taken c.args.sink.now in
+    session_shows g.W.Work.value (replies_shown g.W.Work.value g.met.W.Work.replies) left left out out c.args.tree.now c.args.tree.now _ (memory_first g.W.Work.value left out c.args.tree.now) c.length-length.ensures.legal
+
+pub returns-in-Stop-clause-shown : goal.returns-in-Stop-clause-shown
+returns-in-Stop-clause-shown g c =
+    session_shows g.W.Work.value (replies_shown g.W.Work.value g.met.W.Work.replies) _ _ _ _ _ _ _ (c.in-Stop.ensures.step _ _ _ c.lines.invariant.runs) c.length-length-in-Stop.ensures.legal

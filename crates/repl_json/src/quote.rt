@@ -47,7 +47,7 @@ fn push_escaped(out: &mut Vec<u8>, byte: u8) -> Result<(), AllocError>
 
 /// Adds a text as a JSON string, as `serde_json` writes it compactly. It works byte by byte, so that the text needn't be looked
 /// through for UTF-8 first. Fails for want of memory alone.
-#[tactic(auto, using(crate::proofs::Lists::flat_map_more))]
+#[tactic(auto, using(crate::proofs::PartLemmas::flat_map_more))]
 pub fn push_quoted(out: &mut Vec<u8>, text: &[u8]) -> Result<(), AllocError>
     ensures { OnOk result (out.new.items ≡ out.old.items ++ quoted text.now) }
 {
