@@ -1,0 +1,7 @@
+pub mod Lists
+pub mod Means
+pub mod Work
+pub mod Rounds
+pub mod Following
+pub mod Starts
+pub mod Rooted

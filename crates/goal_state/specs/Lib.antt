@@ -1,0 +1,9 @@
+pub mod State
+pub mod StoredState
+pub mod Codes
+pub mod Following
+pub mod Starting
+pub mod Answers
+pub mod Rounds
+pub mod Laws
+pub mod Examples

@@ -1,0 +1,17 @@
+pub mod Given
+pub mod Declarations
+pub mod Steps
+pub mod GivenMoves
+pub mod Legal
+pub mod States
+pub mod HoleEquations
+pub mod Follow
+pub mod Contexts
+pub mod Products
+pub mod Variables
+pub mod Declared
+pub mod Introducing
+pub mod Goals
+pub mod Meanings
+pub mod Unholed
+pub mod OnGoals

@@ -1,0 +1,17 @@
+use Rattle.std.proofs.Common.{◌≡◌, sym, subst}
+use Rattle.move_text.specs.declared.moves.Move.{Move}
+use Rattle.move_set.specs.Answers.{Answers, plain_moved}
+use Rattle.move_set.specs.Moves.{step}
+use Rattle.move_set.proofs.running.make_step.Goals as goal
+
+pub returns-in-Intro-clause-value : goal.returns-in-Intro-clause-value
+returns-in-Intro-clause-value g c Δ Σ d r there =
+    let h1 = g.T.Terms.holds c.intro.new.terms in
+    let m1 = g.T.Terms.means c.intro.new.terms in
+    subst (λ (m : Move). Answers h1 m1 (plain_moved m1) (step Δ Σ c.args.g d m c.args.fuel.now) c.intro.new.fuel c.intro.result) (sym c.in-Intro.is) (c.intro.ensures.value Δ Σ d r there)
+
+pub returns-in-Exact-clause-value : goal.returns-in-Exact-clause-value
+returns-in-Exact-clause-value g c Δ Σ d r there =
+    let h1 = g.T.Terms.holds c.exact.new.terms in
+    let m1 = g.T.Terms.means c.exact.new.terms in
+    subst (λ (m : Move). Answers h1 m1 (plain_moved m1) (step Δ Σ c.args.g d m c.args.fuel.now) c.exact.new.fuel c.exact.result) (sym c.in-Exact.is) (c.exact.ensures.value Δ Σ d r there)

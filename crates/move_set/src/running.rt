@@ -1,0 +1,166 @@
+//! A move on a goal of a state.
+
+ghost use Rattle.std.specs.Prelude.{◌≡◌, ◌≢◌, ◌<◌, All, IfErr, IfOk, MatchResult, Some, None, ℕ, List as Listed, length, slice_get};
+ghost use Rattle.ld_trees.specs.Term.{Term};
+ghost use Rattle.ld_terms.specs.Views.{Keeps};
+ghost use Rattle.ld_terms.specs.declared.globals.Decl.{Decl};
+ghost use Rattle.ld_terms.specs.declared.globals.Item.{Item};
+ghost use Rattle.conversion.specs.Globals.{AreGlobalsOf, IsDeclOf};
+ghost use Rattle.meta_context.specs.Declaring.{IsOpen};
+ghost use Rattle.goal_state.specs.State.{State, plain_metas};
+ghost use Rattle.goal_state.specs.StoredState.{plain_state};
+ghost use Rattle.goal_state.specs.Following.{Extend, MayFollow};
+ghost use Rattle.move_text.specs.Named.{HasTextName};
+ghost use Rattle.move_set.specs.Answers.{Answers, AreRead, Gives, IsRefused, Shows, plain_moved};
+ghost use Rattle.move_set.specs.Moves as spec;
+ghost use Rattle.move_set.specs.Outcomes.{Outcome};
+ghost use Rattle.move_set.specs.declared.fault.MoveFault.TheVariants as fault;
+
+use crate::fault::{MoveFault, Refused};
+use crate::moves::{Moved, exact, intro};
+use crate::next::next_goals;
+use goal_state::GoalState;
+use ld_terms::{Fuel, Terms};
+use meta_context::{Env, Metas};
+use move_text::{Move, read_move};
+use std::alloc::Global;
+
+/// A step on an open goal.
+fn make_step<T: Terms>(
+    alloc: Global,
+    terms: &mut T,
+    env: &Env<T::Handle>,
+    metas: &Metas<T::Handle>,
+    fuel: &mut Fuel,
+    g: u32,
+    step: &Move,
+) -> Result<Moved<T::Handle>, MoveFault<T::Handle>>
+    requires globals { AreGlobalsOf (T.holds terms.old) env.now metas.now }
+    requires open { IsOpen metas.now g }
+    requires named { HasTextName step.now }
+    ensures value { (Δ : Listed (Item Term)) (Σ : Listed (Decl Term)) (d : Decl Term) → AreRead (T.means terms.old) env.now metas.now Δ Σ → slice_get Σ g ≡ Some d → Answers (T.holds terms.new) (T.means terms.new) (plain_moved (T.means terms.new)) (spec.step Δ Σ g d step.now fuel.old) fuel.new result }
+    ensures held { IfOk result (λ r. All (IsDeclOf (T.holds terms.new)) r.metas) }
+    ensures kept { Keeps (T.holds terms.old) (T.means terms.old) (T.holds terms.new) (T.means terms.new) }
+{
+    match step {
+        Move::Intro(name) => intro(alloc, terms, env, metas, fuel, g, name),
+        Move::Exact(text) => exact(alloc, terms, env, metas, fuel, g, text),
+        _ => Err(MoveFault::NotYet),
+    }
+}
+
+/// A refusal that shows no term.
+fn bare<T: Terms>(fault: MoveFault<T::Handle>) -> Refused<T>
+    ensures terms { result.terms ≡ None }
+    ensures fault { result.fault ≡ fault }
+{
+    Refused { terms: None, fault }
+}
+
+/// A refusal, with the store exactly where it shows terms.
+fn refused<T: Terms + Drop>(terms: T, fault: MoveFault<T::Handle>) -> Refused<T>
+    ensures { (o : Outcome State) (left : ℕ) → Shows (T.holds terms) (T.means terms) o left fault → IsRefused T.holds T.means o result.terms result.fault }
+{
+    match fault {
+        MoveFault::Kernel(kernel) => Refused {
+            terms: Some(terms),
+            fault: MoveFault::Kernel(kernel),
+        },
+        fault => Refused { terms: None, fault },
+    }
+}
+
+/// The state after what a move has come to.
+fn finish<T: Terms + Drop>(
+    alloc: Global,
+    state: &GoalState<T>,
+    terms: T,
+    moved: Moved<T::Handle>,
+    auto: bool,
+) -> Result<GoalState<T>, Refused<T>>
+    requires kept { Keeps (T.holds state.now.terms) (T.means state.now.terms) (T.holds terms) (T.means terms) }
+    requires held { All (IsDeclOf (T.holds terms)) moved.metas }
+    requires follows { MayFollow (plain_state T.means state.now) (plain_metas (T.means terms) moved.metas) (spec.next_goals moved.metas moved.fresh state.now.goals auto) }
+    ensures state { IfOk result (λ s. plain_state T.means s ≡ spec.after_move (plain_state T.means state.now) auto (plain_moved (T.means terms) moved)) }
+    ensures memory { IfErr result (λ r. (r.terms ≡ None) × (r.fault ≡ fault.Memory)) }
+{
+    let Moved { metas, fresh } = moved;
+    let goals = match next_goals(alloc, &metas, fresh.as_slice(), state.goals(), auto) {
+        Ok(goals) => goals,
+        Err(_) => return Err(bare(MoveFault::Memory)),
+    };
+    match state.next_state(alloc, terms, metas, goals) {
+        Ok(next) => Ok(next),
+        Err(_) => Err(bare(MoveFault::Memory)),
+    }
+}
+
+/// A move that was read, on the goal at an index.
+fn move_on<T: Terms + Drop>(
+    alloc: Global,
+    state: &GoalState<T>,
+    goal: u64,
+    step: &Move,
+    units: u64,
+    auto: bool,
+) -> Result<GoalState<T>, Refused<T>>
+    requires { HasTextName step.now }
+    ensures { (s : State) (o : Outcome State) → plain_state T.means state.now ≡ s → spec.at_goal s goal auto step.now (spec.goal_at s goal) units ≡ o → MatchResult result (Gives T.means o) (λ r. IsRefused T.holds T.means o r.terms r.fault) }
+{
+    let goals = state.goals();
+    let count = goals.len() as u64;
+    if goal >= count {
+        return Err(bare(MoveFault::NoGoal { index: goal, count }));
+    }
+    let g = goals[goal as usize];
+    let mut terms = match state.terms().fork(alloc) {
+        Ok(terms) => terms,
+        Err(_) => return Err(bare(MoveFault::Memory)),
+    };
+    let mut fuel = Fuel::new(units);
+    match make_step(
+        alloc,
+        &mut terms,
+        state.env(),
+        state.metas(),
+        &mut fuel,
+        g,
+        step,
+    ) {
+        Ok(moved) => finish(alloc, state, terms, moved, auto),
+        Err(fault) => Err(refused(terms, fault)),
+    }
+}
+
+/// The state that a move's text makes of a state, on the active goal at an index, counted from 0, with so many units of fuel.
+///
+/// `intro x` makes the goal's codomain a new goal, with the entry `x` for its domain; `exact t` settles the goal by a term. With `auto` the
+/// active goals are the new ones and then the others that were active and are open still, in their order; without it the new ones alone.
+/// The given state stays as it was. The new one is legal, which is a fact of the type [`GoalState`].
+///
+/// # Errors
+///
+/// See [`MoveFault`]: the text is read first, then the goal is looked for, and then the move is made; the first refusal is the answer. The
+/// terms of a refusal stand in the store beside it. Want of memory may come at any time.
+pub fn run_move<T: Terms + Drop>(
+    alloc: Global,
+    state: &GoalState<T>,
+    goal: u64,
+    text: &[u8],
+    units: u64,
+    auto: bool,
+) -> Result<GoalState<T>, Refused<T>>
+    // The state or the refusal is that of the definition.
+    ensures value { MatchResult result (Gives T.means (spec.moved (plain_state T.means state.now) goal text.now units auto)) (λ r. IsRefused T.holds T.means (spec.moved (plain_state T.means state.now) goal text.now units auto) r.terms r.fault) }
+    // Each declaration and value of the state stays.
+    ensures kept { IfOk result (λ s. Extend (plain_state T.means state.now).metas (plain_state T.means s).metas) }
+    // Of the state's metavariables only the goal is assigned.
+    ensures assigns { IfOk result (λ s. (g k : ℕ) → slice_get state.now.goals goal ≡ Some g → k < length state.now.metas → k ≢ g → slice_get (plain_state T.means s).metas k ≡ slice_get (plain_state T.means state.now).metas k) }
+{
+    // The store tells that the state is legal.
+    let _terms = state.terms();
+    match read_move(alloc, text) {
+        Ok(step) => move_on(alloc, state, goal, &step, units, auto),
+        Err(fault) => Err(bare(MoveFault::from(fault))),
+    }
+}

@@ -1,0 +1,5 @@
+pub mod Turns
+pub mod Shown
+pub mod Lines
+pub mod States
+pub mod Theorem

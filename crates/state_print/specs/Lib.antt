@@ -1,0 +1,4 @@
+pub mod Pieces
+pub mod Bodies
+pub mod Laws
+pub mod Examples
