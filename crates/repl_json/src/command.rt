@@ -99,6 +99,9 @@ pub fn is_built(command: Command) -> bool
         | Command::EnvAdd
         | Command::EnvInspect
         | Command::EnvCatalog
+        | Command::Start
+        | Command::Move
+        | Command::Print
         | Command::Reset
         | Command::Stat => true,
         _ => false,

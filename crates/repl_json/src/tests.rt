@@ -57,7 +57,7 @@ fn lines_that_are_refused(rt: HostRuntime) -> Result<(), Fail> {
             b"{\"error\":\"field\",\"field\":\"payload\",\"seq\":",
         ),
         (b"{\"cmd\":\"nope\",\"payload\":{}}", command),
-        (b"goal.move {\"stateId\":-1}", not_yet),
+        (b"goal.resume {\"stateId\":-1}", not_yet),
         (
             b"stat {\"after\":1.5}",
             b"{\"error\":\"field\",\"field\":\"after\",\"seq\":",

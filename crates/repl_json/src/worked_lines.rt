@@ -23,7 +23,7 @@ fn words_compute()
     ensures return_is_no_blank { requests_of (codes "stat\r") ≡ refused bad.Command ∷ [] }
     ensures no_text { requests_of (255 ∷ 0 ∷ []) ≡ refused bad.Command ∷ [] }
     ensures no_field { requests_of (codes "env.add") ≡ refused (bad.Field (codes "text")) ∷ [] }
-    ensures not_yet { requests_of (codes "goal.print") ≡ refused bad.NotYet ∷ [] }
+    ensures not_yet { requests_of (codes "goal.resume") ≡ refused bad.NotYet ∷ [] }
 {}
 
 /// The refusals, each before those that stand behind it.
@@ -38,7 +38,7 @@ fn refusals_compute()
     ensures payload { of_object (Some (fields ((codes "cmd", string (codes "nope")) ∷ (codes "payload", whole 1) ∷ []))) ≡ refused (bad.Field (codes "payload")) ∷ [] }
     ensures command { of_payload (codes "nope") (Some (fields [])) ≡ refused bad.Command ∷ [] }
     ensures command_before_fields { of_payload (codes "nope") (Some (fields ((codes "after", string (codes "1")) ∷ []))) ≡ refused bad.Command ∷ [] }
-    ensures not_yet_before_fields { of_payload (codes "goal.move") (Some (fields ((codes "after", string (codes "1")) ∷ []))) ≡ refused bad.NotYet ∷ [] }
+    ensures not_yet_before_fields { of_payload (codes "goal.continue") (Some (fields ((codes "after", string (codes "1")) ∷ []))) ≡ refused bad.NotYet ∷ [] }
     ensures field { of_payload (codes "expr.echo") (Some (fields [])) ≡ refused (bad.Field (codes "expr")) ∷ [] }
     ensures object_line { of_object (Some (fields ((codes "cmd", string (codes "stat")) ∷ []))) ≡ with_after 0 (ask.Stat) ∷ [] }
     ensures payload_null { of_object (Some (fields ((codes "after", whole 7) ∷ (codes "cmd", string (codes "stat")) ∷ (codes "payload", null) ∷ []))) ≡ with_after 0 (ask.Stat) ∷ [] }
