@@ -17,7 +17,7 @@ use Rattle.reply_text.specs.declared.members.Members.{Members}
 use Rattle.reply_text.specs.Members.{number, string, member_text, behind_comma, members_text, body_text, object_text}
 use Rattle.reply_text.specs.Shown.{size, printed_json, term_json, level_names}
 use Rattle.reply_text.specs.Context.{between_commas, array_text, entry_json, first_entries, shown_names, context_json}
-use Rattle.reply_text.specs.Refusals.{error, place, item_number, level_term, syntax, name_taken, no_item, unknown_name, wrong_count, unsolved, scoping, kernel, out_of_fuel}
+use Rattle.reply_text.specs.Refusals.{error, place, item_number, level_term, syntax, name_taken, no_item, unknown_name, wrong_count, unsolved, plain, of_goal, no_goal, scoping, kernel, out_of_fuel}
 
 -- ---- members
 
@@ -129,6 +129,17 @@ syntax_reply at = reply_of (syntax at) (at_plain at, (error_plain (codes "syntax
 pub fuel_reply : (item : Option ℕ) → IsReply (body_text (out_of_fuel item))
 unfolding escape_byte
 fuel_reply item = reply_of (out_of_fuel item) (error_plain (codes "fuel"), item_plain item) tt refl
+
+-- an error that shows nothing more, and isn't want of memory
+pub plain_reply : (name : List ℕ) → differ (body_text (plain name None)).first memory_front ≡ true → IsReply (body_text (plain name None))
+plain_reply name other = reply_of (plain name None) (error_plain name, tt) tt other
+
+-- nor is one that names a metavariable
+pub goal_reply : (name : List ℕ) (m : ℕ) → differ (body_text (of_goal name m)).first memory_front ≡ true → IsReply (body_text (of_goal name m))
+goal_reply name m other = reply_of (of_goal name m) (error_plain name, (number_plain (codes "goal") m refl, tt)) tt other
+
+pub no_goal_reply : (index count : ℕ) → IsReply (body_text (no_goal index count))
+no_goal_reply index count = reply_of (no_goal index count) (number_plain (codes "count") count refl, (error_plain (codes "noGoal"), (number_plain (codes "index") index refl, tt))) tt refl
 
 pub taken_reply : (item : Option ℕ) (name : List ℕ) → IsReply (body_text (name_taken item name))
 unfolding escape_byte

@@ -50,6 +50,14 @@ wrong_count item at name given wanted = record { before = place at ∷ error (co
 abbrev pub unsolved : Option ℕ → ℕ → Members
 unsolved item at = record { before = place at ∷ error (codes "unsolved") ∷ item_number item; after = [] }
 
+-- a refusal that names a metavariable
+abbrev pub of_goal : List ℕ → ℕ → Members
+of_goal name m = record { before = error name ∷ number (codes "goal") m ∷ []; after = [] }
+
+-- an index that isn't below the number of active goals
+abbrev pub no_goal : ℕ → ℕ → Members
+no_goal index count = record { before = number (codes "count") count ∷ error (codes "noGoal") ∷ number (codes "index") index ∷ []; after = [] }
+
 -- want of memory is no refusal, and shows nothing
 abbrev pub nothing : Members
 nothing = record { before = []; after = [] }

@@ -42,8 +42,8 @@ pub fn syntax_members(alloc: Global, at: u64) -> Result<Members, AllocError>
     Ok(Members::before(alloc, before))
 }
 
-/// An error that shows nothing more.
-fn plain_members(alloc: Global, name: &str, item: Option<u64>) -> Result<Members, AllocError>
+/// An error that shows nothing more, in the item of this number if it is one. Fails for want of memory alone.
+pub fn plain_members(alloc: Global, name: &str, item: Option<u64>) -> Result<Members, AllocError>
     ensures { IfOk result (λ m. m ≡ spec.plain name.now item) }
 {
     let mut before = vec![in alloc; error(alloc, name)?]?;
@@ -75,6 +75,26 @@ pub fn no_item_members(alloc: Global, name: &[u8]) -> Result<Members, AllocError
     let before = vec![in alloc;
         error(alloc, "unknownName")?,
         Member::string(alloc, "name", name)?,
+    ]?;
+    Ok(Members::before(alloc, before))
+}
+
+/// An error that names a metavariable. Fails for want of memory alone.
+pub fn goal_members(alloc: Global, name: &str, goal: u32) -> Result<Members, AllocError>
+    ensures { IfOk result (λ m. m ≡ spec.of_goal name.now goal) }
+{
+    let goal = Member::number(alloc, "goal", u64::from(goal))?;
+    Ok(Members::before(alloc, vec![in alloc; error(alloc, name)?, goal]?))
+}
+
+/// An index that isn't below the number of active goals, which is `count`. Fails for want of memory alone.
+pub fn no_goal_members(alloc: Global, index: u64, count: u64) -> Result<Members, AllocError>
+    ensures { IfOk result (λ m. m ≡ spec.no_goal index count) }
+{
+    let before = vec![in alloc;
+        Member::number(alloc, "count", count)?,
+        error(alloc, "noGoal")?,
+        Member::number(alloc, "index", index)?,
     ]?;
     Ok(Members::before(alloc, before))
 }
