@@ -5,5 +5,6 @@ pub mod Opens
 pub mod EnteringLemmas
 pub mod Looks
 pub mod Stays
+pub mod Inherited
 pub mod Later
 pub mod Shown

@@ -30,20 +30,20 @@ module _ {S : Type 0} where
   abbrev pub values : List (Slot S) → List S
   values slots = map (λ slot. slot.state) slots
 
-  values_without : (xs : List (Slot S)) (i : ℕ) → values (without xs i) ≡ values xs
+  pub values_without : (xs : List (Slot S)) (i : ℕ) → values (without xs i) ≡ values xs
   values_without [] i = refl
   values_without (x ∷ xs) zero = refl
   values_without (x ∷ xs) (suc i) = ap (λ l. x.state ∷ l) (values_without xs i)
 
-  values_ended : (xs : List (Slot S)) → values (map ended xs) ≡ values xs
+  pub values_ended : (xs : List (Slot S)) → values (map ended xs) ≡ values xs
   values_ended [] = refl
   values_ended (x ∷ xs) = ap (λ l. x.state ∷ l) (values_ended xs)
 
-  values_append : (xs ys : List (Slot S)) → values (xs ++ ys) ≡ values xs ++ values ys
+  pub values_append : (xs ys : List (Slot S)) → values (xs ++ ys) ≡ values xs ++ values ys
   values_append [] ys = refl
   values_append (x ∷ xs) ys = ap (λ l. x.state ∷ l) (values_append xs ys)
 
-  get_value : (xs : List (Slot S)) (i : ℕ) → slice_get (values xs) i ≡ option_map (λ slot. slot.state) (slice_get xs i)
+  pub get_value : (xs : List (Slot S)) (i : ℕ) → slice_get (values xs) i ≡ option_map (λ slot. slot.state) (slice_get xs i)
   get_value [] i = refl
   get_value (x ∷ xs) zero = refl
   get_value (x ∷ xs) (suc i) = get_value xs i

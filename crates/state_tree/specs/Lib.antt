@@ -8,5 +8,6 @@ pub mod TreeModel
 pub mod Enters
 pub mod Replies
 pub mod Laws
+pub mod Marks
 pub mod Toy
 pub mod ToyReplies

@@ -1,5 +1,5 @@
 -- Commands whose environments and states are numbers: a value to compute the server with.
-use Rattle.std.specs.Prelude.{ℕ, ◌+◌, nat_lt, ◌&&◌, Option, Some, None, [], codes, true, false, if◌then◌else◌}
+use Rattle.std.specs.Prelude.{ℕ, ◌+◌, nat_lt, ◌&&◌, Option, Some, None, [], codes, true, false, if◌then◌else◌, unwrap_or}
 use Rattle.repl_json.specs.declared.reply.Body.{Body}
 use Rattle.repl_json.specs.declared.request.Request.{Request}
 use Rattle.repl_json.specs.declared.request.Ask.{Ask}
@@ -31,6 +31,11 @@ toy_value (Start env expr fuel) found = MakesState fuel state_body
 toy_value (EnvAdd env text fuel) found = MakesEnv fuel env_body
 toy_value (Move state goal text fuel auto) found = moved goal found.one
 toy_value ask found = Says said_body
+
+-- where a state comes from: the number that its `goal.start` gives
+abbrev pub toy_mark : Ask → Option ℕ → ℕ
+toy_mark (Start env expr fuel) named = fuel
+toy_mark ask named = unwrap_or named 0
 
 -- requests, entries and prepared requests for the rows
 abbrev pub start : ℕ → Ask

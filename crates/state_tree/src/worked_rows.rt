@@ -9,7 +9,8 @@ ghost use Rattle.state_tree.specs.declared.work.Gave.TheVariants as gave;
 ghost use Rattle.state_tree.specs.Server.{opening, replies, replay, IsLegal};
 ghost use Rattle.state_tree.specs.Again.{again_of};
 ghost use Rattle.state_tree.specs.TreeModel.{gave_of};
-ghost use Rattle.state_tree.specs.Toy.{toy_value, said_body, state_body, env_body, start, move_by, request, entered, starved, refused, unseen, seen};
+ghost use Rattle.state_tree.specs.Marks.{marks_of};
+ghost use Rattle.state_tree.specs.Toy.{toy_value, toy_mark, said_body, state_body, env_body, start, move_by, request, entered, starved, refused, unseen, seen};
 
 /// The replies of histories over the book 7.
 fn replies_compute()
@@ -31,6 +32,12 @@ fn replies_compute()
         ≡ line.Given state_body 0 (Some 0) ∷ line.UnknownState 8 1 ∷ line.UnknownState 9 2 ∷ [] }
     // Want of memory makes no state.
     ensures memory { replies toy_value (opening toy_value 7) (starved (start 5) ∷ entered (ask.Print 0) ∷ []) ≡ line.Memory 0 ∷ line.UnknownState 0 1 ∷ [] }
+{}
+
+/// Where the states of a history come from.
+fn marks_compute()
+    ensures marks { marks_of toy_value toy_mark 7 (entered (start 5) ∷ entered (move_by 0 1) ∷ entered (start 9) ∷ entered (ask.Delete 0) ∷ entered (move_by 0 1) ∷ entered (move_by 1 1) ∷ entered (move_by 2 1) ∷ entered ask.Reset ∷ [])
+        ≡ 5 ∷ 5 ∷ 9 ∷ 5 ∷ 9 ∷ [] }
 {}
 
 /// What entries may say, and when a request is looked up again.
