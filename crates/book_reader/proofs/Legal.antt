@@ -1,5 +1,6 @@
 -- A book behind a legal environment makes a legal one.
-use Rattle.std.proofs.Common.{◌≡◌, ℕ, suc, Bool, true, false, List, [], ◌∷◌, ◌++◌, length, Option, Some, None, option_map, Result, Ok, Err, refl, sym, ap, ◌∙◌, subst}
+use Rattle.std.proofs.Common.{◌≡◌, ℕ, suc, Bool, true, false, List, [], ◌∷◌, ◌++◌, length, All, Option, Some, None, option_map, Result, Ok, Err, refl, sym, ap, ◌∙◌, subst, arith}
+use Rattle.std.proofs.lemmas.List.Elements.{All-cons, All-tail}
 use Rattle.std.specs.Prelude.{is_some}
 use Rattle.ld_trees.specs.Term.{Sort, Named, Term, Srt, ◌▹◌}
 use Rattle.ld_rules.specs.Environment.{item_of}
@@ -7,6 +8,7 @@ use Rattle.ld_rules.specs.Derivation.{Derives, weak, conv as converts}
 use Rattle.ld_rules.specs.Legality.{IsLegal, IsLegalEnvironment, MayBeAdded}
 use Rattle.ld_rules.proofs.Environments.{adding}
 use Rattle.ld_terms.specs.Items.{item_named}
+use Rattle.ld_terms.specs.Names.{IsTextName}
 use Rattle.ld_terms.specs.declared.globals.Item.{Item as StoredItem}
 use Rattle.ld_terms.specs.declared.globals.Local.{Local}
 use Rattle.ld_terms.proofs.Arguments.{terms_of_end}
@@ -24,6 +26,7 @@ use Rattle.book_reader.specs.declared.source.Parameter.{Parameter}
 use Rattle.book_reader.specs.declared.source.Source.{Source}
 use Rattle.book_reader.specs.Items.{ItemRefusal, NameTaken, Kernel, Check, go_on, pure, refuse, ran, kernel, choose, entry_name, resolved, sorted, typed, parameters, fits, body, optional_body, new_name, item}
 use Rattle.book_reader.specs.Book.{BookRefusal, behind, enter}
+use Rattle.book_reader.specs.Named.{HasNames}
 
 -- ---- a check that gave a value
 
@@ -136,6 +139,18 @@ module _ (items : List (StoredItem Term)) where
         primitive = λ is. sort;
       }
 
+  -- an item keeps the name that its text gives
+  item_name : (s : Source) (i : StoredItem Term) (n k : ℕ) → item items s n ≡ Ok (i, k) → i.name ≡ s.name
+  item_name s i n k e =
+      let last : List (Local Term) → Term → Option Term → StoredItem Term = λ params T M. record { name = s.name; params = params; ty = T; body = M } in
+      let third : List (Local Term) → Term → Check (StoredItem Term) = λ params T n. go_on (optional_body items params T s.body n) (λ M. pure (last params T M)) in
+      let second : List (Local Term) → Check (StoredItem Term) = λ params n. go_on (typed items params s.ty n) (λ T. third params T) in
+      let a = bound (new_name items s.name n) (λ _ n. go_on (parameters items [] s.params n) second) (i, k) e in
+      let b = bound (parameters items [] s.params a.1) second (i, k) a.3 in
+      let t = bound (typed items b.0 s.ty b.1) (third b.0) (i, k) b.3 in
+      let o = bound (optional_body items b.0 t.0 s.body t.1) (λ M. pure (last b.0 t.0 M)) (i, k) t.3 in
+      sym (ap (λ (i : StoredItem Term). i.name) (pure_is (last b.0 t.0 o.0) i o.1 k o.3))
+
 step_legal : (items : List (StoredItem Term)) (s : Source) (i : StoredItem Term) (n k : ℕ) → IsLegalEnvironment (rules_env items) → item items s n ≡ Ok (i, k) → IsLegalEnvironment (rules_env (i ∷ items))
 step_legal items s i n k legal e = adding (rules_env items) (item_tree (λ t. t) i) legal (item_may items s i n k legal e)
 
@@ -151,3 +166,11 @@ enter_legal units k items [] all legal e = subst (λ is. IsLegalEnvironment (rul
 enter_legal units k items (s ∷ ss) all legal e =
     let b = behind_is k (item items s units) (λ i. enter units (suc k) (i ∷ items) ss) all e in
     enter_legal units (suc k) (b.0 ∷ items) ss all (step_legal items s b.0 units b.1 legal b.2) b.3
+
+-- names of the texts stay so
+pub enter_named : (units k : ℕ) (items : List (StoredItem Term)) (ss : List Source) (all : List (StoredItem Term)) → All HasNames ss → All (λ i. IsTextName i.name) items → enter units k items ss ≡ Ok all → All (λ i. IsTextName i.name) all
+enter_named units k items [] all texts named e = subst (λ is. All (λ i. IsTextName i.name) is) (ok_is items all e) named
+enter_named units k items (s ∷ ss) all texts named e =
+    let b = behind_is k (item items s units) (λ i. enter units (suc k) (i ∷ items) ss) all e in
+    let first : IsTextName (b.0).name = subst IsTextName (sym (item_name items s b.0 units b.1 b.2)) (texts 0 s (omega arith)).item in
+    enter_named units (suc k) (b.0 ∷ items) ss all (All-tail HasNames s ss texts) (All-cons (λ (i : StoredItem Term). IsTextName i.name) b.0 items first named) b.3

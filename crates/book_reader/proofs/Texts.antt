@@ -25,6 +25,10 @@ pub named : (text : Text) (r : Result (List Source) ReadFault) → Gives (λ ss 
 named text (Ok ss) h = let x = gives_ok (read text) ss h in items_named (read_sound text ss x.0 x.1) (lexemes_named text)
 named text (Err e) h = tt
 
+-- each source of a text that was read has names of the texts
+pub named_sources : (text : Text) (ss : List Source) (j : Input) → read text ≡ Ok (ss, j) → All HasNames ss
+named_sources text ss j e = items_named (read_sound text ss j e) (lexemes_named text)
+
 pub read_complete : (text : Text) (ss : List Source) → IsBookText text ss → (j : Input) × (read text ≡ Ok (ss, j))
 unfolding read
 read_complete text ss h = let x = (items_run h).run (input_at text 0) refl in (x.0, x.1)

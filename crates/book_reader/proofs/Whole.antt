@@ -1,7 +1,8 @@
 -- A book as a whole: its text, and then its items.
-use Rattle.std.proofs.Common.{◌≡◌, ℕ, suc, List, [], ◌∷◌, Result, Ok, Err, refl, sym, ap, ◌∙◌, subst, IfOk}
+use Rattle.std.proofs.Common.{◌≡◌, ℕ, suc, List, [], ◌∷◌, Result, Ok, Err, All, refl, sym, ap, ◌∙◌, subst, IfOk}
 use Rattle.ld_trees.specs.Term.{Term}
 use Rattle.ld_rules.specs.Legality.{IsLegalEnvironment}
+use Rattle.ld_terms.specs.Names.{IsTextName}
 use Rattle.ld_terms.specs.declared.globals.Item.{Item}
 use Rattle.term_syntax.specs.declared.fault.ReadFault.{ReadFault}
 use Rattle.term_syntax.specs.declared.fault.ReadFault.TheVariants as fault
@@ -21,9 +22,9 @@ use Rattle.book_reader.specs.Laws.{IsRefusedAt}
 use Rattle.book_reader.specs.Reading.{read}
 use Rattle.book_reader.specs.Answers.{ShowsBook, IsBook}
 use Rattle.book_reader.specs.Entering.{fault_of}
-use Rattle.book_reader.proofs.Legal.{enter_legal}
+use Rattle.book_reader.proofs.Legal.{enter_legal, enter_named}
 use Rattle.book_reader.proofs.Sound.{read_sound}
-use Rattle.book_reader.proofs.Texts.{gives_ok, read_complete, refused}
+use Rattle.book_reader.proofs.Texts.{gives_ok, read_complete, refused, named_sources}
 
 pub unread_shows : {H : Type 0} (holds : H → Type 0) (means : H → Term) (Δ : List (Item Term)) (units : ℕ) (text : Text) (e : ReadFault) (f : BookFault H) → f ≡ fault_of e → Gives (λ ss _. ss) (read text) (Err e) → ShowsBook holds means (book_value Δ units text) f
 unread_shows holds means Δ units text fault.Memory f is h = subst (ShowsBook holds means (book_value Δ units text)) (sym is) tt
@@ -32,9 +33,17 @@ unread_shows holds means Δ units text (fault.Syntax at) f is h = subst (ShowsBo
 pub whole_is : (Δ : List (Item Term)) (units : ℕ) (text : Text) (ss : List Source) → Gives (λ ss _. ss) (read text) (Ok ss) → enter units 0 Δ ss ≡ book_value Δ units text
 whole_is Δ units text ss h = let x = gives_ok (read text) ss h in sym (ap (enter_all units Δ) x.1)
 
-legal_all : (units : ℕ) (Δ : List (Item Term)) (o : Outcome (List Source)) (all : List (Item Term)) → IsLegalEnvironment (rules_env Δ) → enter_all units Δ o ≡ Ok all → IsLegalEnvironment (rules_env all)
+pub legal_all : (units : ℕ) (Δ : List (Item Term)) (o : Outcome (List Source)) (all : List (Item Term)) → IsLegalEnvironment (rules_env Δ) → enter_all units Δ o ≡ Ok all → IsLegalEnvironment (rules_env all)
 legal_all units Δ (Ok p) all legal e = enter_legal units 0 Δ p.0 all legal e
 legal_all units Δ (Err i) all legal e = absurd cc
+
+-- the items of a book behind items with names of the texts have such names too
+named_all : (units : ℕ) (Δ : List (Item Term)) (text : Text) (o : Outcome (List Source)) (all : List (Item Term)) → read text ≡ o → All (λ i. IsTextName i.name) Δ → enter_all units Δ o ≡ Ok all → All (λ i. IsTextName i.name) all
+named_all units Δ text (Ok p) all is h e = enter_named units 0 Δ p.0 all (named_sources text p.0 p.1 is) h e
+named_all units Δ text (Err i) all is h e = absurd cc
+
+pub book_named : (units : ℕ) (Δ : List (Item Term)) (text : Text) (all : List (Item Term)) → All (λ i. IsTextName i.name) Δ → book_value Δ units text ≡ Ok all → All (λ i. IsTextName i.name) all
+book_named units Δ text all h e = named_all units Δ text (read text) all refl h e
 
 pub book_legal : {H : Type 0} (holds : H → Type 0) (means means' : H → Term) (items : List (Item H)) (units : ℕ) (text : Text) (r : Result (List (Item H)) (BookFault H))
     → IsBook holds means' (book_value (plain_items means items) units text) r → IsLegalEnvironment (env_of means items []) → IfOk r (λ e. IsLegalEnvironment (env_of means' e []))
