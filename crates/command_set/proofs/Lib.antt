@@ -2,4 +2,8 @@ pub mod Shown
 pub mod Answered
 pub mod Kept
 pub mod Echoed
+pub mod Begun
 pub mod Results
+pub mod NoSquare
+pub mod ReadBack
+pub mod Proved

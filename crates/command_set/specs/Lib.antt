@@ -1,9 +1,10 @@
-pub mod Codes
 pub mod Stored
 pub mod Shown
 pub mod Echo
 pub mod Books
 pub mod Inspect
+pub mod Goals
 pub mod Values
 pub mod Replies
+pub mod Theorems
 pub mod Examples

@@ -13,6 +13,13 @@ use Rattle.term_syntax.specs.declared.surface.Surface.{Surface}
 use Rattle.term_text.specs.Scoped.{arities}
 use Rattle.conversion.specs.Runs.{Outcome, Gave, Refused, OutOfFuel}
 use Rattle.kernel_check.specs.Inference.{infer}
+use Rattle.goal_state.specs.State.{State}
+use Rattle.goal_state.specs.Starting.{Started, TooDeep, Inferred, started}
+use Rattle.move_set.specs.Outcomes as move
+use Rattle.move_set.specs.Moves.{moved}
+use Rattle.state_print.specs.Bodies.{made_body, printed_body}
+use Rattle.state_print.specs.Pieces.{state_text}
+use Rattle.state_print.proofs.Lines.{shown_states_are_replies}
 use Rattle.book_reader.specs.Items.{ItemRefusal, NameTaken, Scope, Kernel, Fuel}
 use Rattle.book_reader.specs.Book.{BookRefusal, Syntax, AtItem, book_value}
 use Rattle.meta_context.specs.Entered.{names_of}
@@ -20,18 +27,19 @@ use Rattle.meta_context.specs.Plain.{rules_env}
 use Rattle.repl_json.specs.OneLine.{is_unbroken, IsReply}
 use Rattle.repl_json.proofs.OneLineLemmas.{unbroken-quoted, bad_is_reply}
 use Rattle.repl_json.specs.declared.request.Ask.{Ask}
-use Rattle.repl_json.specs.declared.request.Ask.TheVariants.{Echo, EnvAdd, EnvInspect, EnvCatalog}
+use Rattle.repl_json.specs.declared.request.Ask.TheVariants.{Echo, EnvAdd, EnvInspect, EnvCatalog, Start, Move, Print}
 use Rattle.repl_json.specs.declared.request.Bad.TheVariants.{NotYet}
 use Rattle.reply_text.specs.Members.{body_text}
 use Rattle.reply_text.specs.Context.{shown_names}
-use Rattle.reply_text.proofs.ReplyLines.{ArePlain, AreUnbroken, reply_of, string_plain, term_unbroken, array_unbroken, context_unbroken, syntax_reply, fuel_reply, taken_reply, no_item_reply, scoping_reply, kernel_reply}
+use Rattle.reply_text.proofs.ReplyLines.{ArePlain, AreUnbroken, reply_of, string_plain, term_unbroken, array_unbroken, context_unbroken, syntax_reply, fuel_reply, taken_reply, no_item_reply, plain_reply, goal_reply, no_goal_reply, scoping_reply, kernel_reply}
 use Rattle.state_tree.specs.declared.work.Found.{Found}
-use Rattle.state_tree.specs.Value.{Value, Says, MakesEnv}
+use Rattle.state_tree.specs.Value.{Value}
 use Rattle.state_tree.specs.Replies.{SaysReply}
 use Rattle.command_set.specs.Echo.{typed, inferred, resolved, parsed, echo}
 use Rattle.command_set.specs.Books.{item_refusal, book_refusal, added}
 use Rattle.command_set.specs.Inspect.{kind_of, value_of, front, back, item_members, found_item, inspect, catalog}
-use Rattle.command_set.specs.Values.{in_env, added_value, value}
+use Rattle.command_set.specs.Goals.{Given, move_refusal, printed, makes, inferred as first_inferred, begun, resolved as first_resolved, parsed as first_parsed, start, made, move_on}
+use Rattle.command_set.specs.Values.{on, added_value, value}
 
 -- ---- `expr.echo`
 
@@ -100,21 +108,71 @@ catalog_reply : (items : List (Item Term)) → IsReply (body_text (catalog items
 unfolding catalog
 catalog_reply items = reply_of (catalog items) ((refl, array_unbroken (map (λ i. quoted i.name) (reverse items)) (names_unbroken (reverse items))), tt) tt refl
 
+-- ---- `goal.start`, `goal.move` and `goal.print`
+
+makes_reply : (s : State) → SaysReply (makes s)
+makes_reply s = (shown_states_are_replies s).0
+
+printed_reply : (s : State) → IsReply (printed s)
+printed_reply s = (shown_states_are_replies s).1
+
+first_inferred_reply : (o : Outcome State) → SaysReply (first_inferred o)
+first_inferred_reply (Gave s left) = makes_reply s
+first_inferred_reply (Refused r left) = kernel_reply None r
+first_inferred_reply OutOfFuel = fuel_reply None
+
+begun_reply : (o : Started) → SaysReply (begun o)
+unfolding escape_byte
+begun_reply (TooDeep m) = goal_reply (codes "tooDeep") m refl
+begun_reply (Inferred o) = first_inferred_reply o
+
+first_resolved_reply : (items : List (Item Term)) (fuel : ℕ) (r : Resolved Term) → SaysReply (first_resolved items fuel r)
+first_resolved_reply items fuel (Ok t) = begun_reply (started items t fuel)
+first_resolved_reply items fuel (Err fault) = scoping_reply None fault
+
+first_parsed_reply : (items : List (Item Term)) (fuel : ℕ) (p : Parsed Surface) → SaysReply (first_parsed items fuel p)
+first_parsed_reply items fuel (Ok p) = first_resolved_reply items fuel (scope (arities items) [] p.0 [])
+first_parsed_reply items fuel (Err input) = syntax_reply (place input)
+
+start_reply : (items : List (Item Term)) (expr : Text) (fuel : ℕ) → SaysReply (start items expr fuel)
+unfolding start
+start_reply items expr fuel = first_parsed_reply items fuel (read expr)
+
+move_reply : (r : move.Refusal) → IsReply (body_text (move_refusal r))
+unfolding move_refusal escape_byte
+move_reply (move.Syntax at) = syntax_reply at
+move_reply (move.NoGoal index count) = no_goal_reply index count
+move_reply move.NotYet = plain_reply (codes "notYet") refl
+move_reply (move.NameTaken name) = taken_reply None name
+move_reply move.NotProduct = plain_reply (codes "notProduct") refl
+move_reply (move.Scope fault) = scoping_reply None fault
+move_reply (move.Kernel r) = kernel_reply None r
+move_reply move.TooManyMetas = plain_reply (codes "tooManyMetas") refl
+move_reply (move.TooDeep m) = goal_reply (codes "tooDeep") m refl
+move_reply (move.Cycle m) = goal_reply (codes "cycle") m refl
+
+made_reply : (o : move.Outcome State) → SaysReply (made o)
+made_reply (move.Gave s left) = makes_reply s
+made_reply (move.Refused r left) = move_reply r
+made_reply move.OutOfFuel = fuel_reply None
+
 -- ---- the value of each command
 
-added_is_reply : (S : Type 0) (r : Result (List (Item Term)) BookRefusal) → SaysReply {E = List (Item Term)} {S = S} (added_value r)
-added_is_reply S (Ok items) = added_reply
-added_is_reply S (Err r) = book_reply r
+added_is_reply : (r : Result (List (Item Term)) BookRefusal) → SaysReply {E = List (Item Term)} {S = State} (added_value r)
+added_is_reply (Ok items) = added_reply
+added_is_reply (Err r) = book_reply r
 
-module _ {S : Type 0} where
-  in_env_reply : (o : Option (List (Item Term))) (f : List (Item Term) → Value (List (Item Term)) S) → ((items : List (Item Term)) → SaysReply (f items)) → SaysReply (in_env o f)
-  in_env_reply None f h = bad_is_reply NotYet
-  in_env_reply (Some items) f h = h items
+on_reply : {A : Type 0} (o : Option A) (f : A → Given) → ((x : A) → SaysReply (f x)) → SaysReply (on o f)
+on_reply None f h = bad_is_reply NotYet
+on_reply (Some x) f h = h x
 
-  pub value_reply : (ask : Ask) (found : Found (List (Item Term)) S) → SaysReply (value ask found)
-  unfolding value
-  value_reply (Echo env expr fuel) found = in_env_reply found.env _ (λ items. echo_reply items expr fuel)
-  value_reply (EnvAdd env text fuel) found = in_env_reply found.env _ (λ items. added_is_reply S (book_value items fuel text))
-  value_reply (EnvInspect env name) found = in_env_reply found.env _ (λ items. inspect_reply items name)
-  value_reply (EnvCatalog env) found = in_env_reply found.env _ (λ items. catalog_reply items)
-  value_reply ask found = bad_is_reply NotYet
+pub value_reply : (ask : Ask) (found : Found (List (Item Term)) State) → SaysReply (value ask found)
+unfolding value
+value_reply (Echo env expr fuel) found = on_reply found.env _ (λ items. echo_reply items expr fuel)
+value_reply (EnvAdd env text fuel) found = on_reply found.env _ (λ items. added_is_reply (book_value items fuel text))
+value_reply (EnvInspect env name) found = on_reply found.env _ (λ items. inspect_reply items name)
+value_reply (EnvCatalog env) found = on_reply found.env _ (λ items. catalog_reply items)
+value_reply (Start env expr fuel) found = on_reply found.env _ (λ items. start_reply items expr fuel)
+value_reply (Move state goal text fuel auto) found = on_reply found.one _ (λ s. made_reply (moved s goal text fuel auto))
+value_reply (Print state) found = on_reply found.one _ (λ s. printed_reply s)
+value_reply ask found = bad_is_reply NotYet

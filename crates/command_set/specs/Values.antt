@@ -2,32 +2,36 @@
 use Rattle.std.specs.Prelude.{List, Option, Some, None, Result, Ok, Err}
 use Rattle.repl_json.specs.Bad.{bad_body}
 use Rattle.repl_json.specs.declared.request.Ask.{Ask}
-use Rattle.repl_json.specs.declared.request.Ask.TheVariants.{Echo, EnvAdd, EnvInspect, EnvCatalog}
+use Rattle.repl_json.specs.declared.request.Ask.TheVariants.{Echo, EnvAdd, EnvInspect, EnvCatalog, Start, Move, Print}
 use Rattle.repl_json.specs.declared.request.Bad.TheVariants.{NotYet}
 use Rattle.state_tree.specs.declared.work.Found.{Found}
 use Rattle.state_tree.specs.Value.{Value, Says, MakesEnv}
 use Rattle.ld_trees.specs.Term.{Term}
 use Rattle.ld_terms.specs.declared.globals.Item.{Item}
 use Rattle.book_reader.specs.Book.{BookRefusal, book_value}
+use Rattle.goal_state.specs.State.{State}
 use Rattle.reply_text.specs.Members.{body_text}
 use Rattle.command_set.specs.Echo.{echo}
 use Rattle.command_set.specs.Books.{book_refusal, added}
 use Rattle.command_set.specs.Inspect.{inspect, catalog}
+use Rattle.command_set.specs.Goals.{Given, start, move_on, printed}
 
-module _ {S : Type 0} where
-  -- on the environment that was found; without one a request has no value, and is never entered by it
-  abbrev pub in_env : Option (List (Item Term)) → (List (Item Term) → Value (List (Item Term)) S) → Value (List (Item Term)) S
-  in_env None f = Says (bad_body NotYet)
-  in_env (Some items) f = f items
+-- on the environment or the state that was found; without one a request has no value, and is never entered by it
+abbrev pub on : {A : Type 0} → Option A → (A → Given) → Given
+on None f = Says (bad_body NotYet)
+on (Some x) f = f x
 
-  abbrev pub added_value : Result (List (Item Term)) BookRefusal → Value (List (Item Term)) S
-  added_value (Ok items) = MakesEnv items added
-  added_value (Err r) = Says (body_text (book_refusal r))
+abbrev pub added_value : {S : Type 0} → Result (List (Item Term)) BookRefusal → Value (List (Item Term)) S
+added_value (Ok items) = MakesEnv items added
+added_value (Err r) = Says (body_text (book_refusal r))
 
-  -- a command that isn't built says so
-  unfoldable pub value : Ask → Found (List (Item Term)) S → Value (List (Item Term)) S
-  value (Echo env expr fuel) found = in_env found.env (λ items. Says (body_text (echo items expr fuel)))
-  value (EnvAdd env text fuel) found = in_env found.env (λ items. added_value (book_value items fuel text))
-  value (EnvInspect env name) found = in_env found.env (λ items. Says (body_text (inspect items name)))
-  value (EnvCatalog env) found = in_env found.env (λ items. Says (body_text (catalog items)))
-  value ask found = Says (bad_body NotYet)
+-- a command that isn't built says so
+unfoldable pub value : Ask → Found (List (Item Term)) State → Given
+value (Echo env expr fuel) found = on found.env (λ items. Says (body_text (echo items expr fuel)))
+value (EnvAdd env text fuel) found = on found.env (λ items. added_value (book_value items fuel text))
+value (EnvInspect env name) found = on found.env (λ items. Says (body_text (inspect items name)))
+value (EnvCatalog env) found = on found.env (λ items. Says (body_text (catalog items)))
+value (Start env expr fuel) found = on found.env (λ items. start items expr fuel)
+value (Move state goal text fuel auto) found = on found.one (λ s. move_on s goal text fuel auto)
+value (Print state) found = on found.one (λ s. Says (printed s))
+value ask found = Says (bad_body NotYet)

@@ -33,11 +33,11 @@ impl<T: Terms> Model for Environment<T> {
     ghost use Rattle.meta_context.specs.Plain.{plain_items};
     ghost use Rattle.command_set.specs.Stored.{IsStored};
     ghost use Rattle.std.specs.Coded.{coded_list};
-    ghost use Rattle.command_set.specs.Codes.{coded_item};
+    ghost use Rattle.goal_state.specs.Codes.{coded_item, coded_term};
 
     ghost Value = { List (Item Term) };
 
-    ghost coded = { coded_list coded_item };
+    ghost coded = { coded_list (coded_item coded_term) };
 
     ghost view = { λ e. plain_items (T.means (arc_value e.at).terms) (arc_value e.at).items };
 

@@ -1,4 +1,4 @@
-//! The value of each command: what it replies, and the environment that it makes.
+//! The value of each command: what it replies, and the environment or the proof state that it makes.
 #![tactic(auto)]
 
 mod env_add;
@@ -6,13 +6,24 @@ mod env_inspect;
 mod environment;
 mod examples;
 mod expr_echo;
+mod goal_examples;
+mod goal_move;
+mod goal_start;
+mod laws;
+mod plain;
+mod proof_state;
 mod values;
 
 pub use env_add::{add_items, book_members};
 pub use env_inspect::{catalog, inspect};
 pub use environment::Environment;
 pub use expr_echo::echo;
-pub use values::{NoState, PlainEnvironment, Program};
+pub use goal_move::{move_goal, print};
+pub use goal_start::start;
+pub use laws::{printed_proofs_are_proofs, states_prove};
+pub use plain::{PlainEnvironment, PlainState};
+pub use proof_state::ProofState;
+pub use values::Program;
 
 #[cfg(test)]
 mod tests;

@@ -1,6 +1,6 @@
 //! The replies of commands, worked over a store.
 
-use crate::{Environment, NoState, PlainEnvironment, Program};
+use crate::{Environment, PlainEnvironment, PlainState, Program};
 use ld_terms::{List, TreeTerms};
 use repl_json::{Ask, Body, Request};
 use state_tree::{Found, Work, Worked};
@@ -31,7 +31,7 @@ fn work(
     alloc: Global,
     env: &PlainEnvironment,
     ask: Ask,
-) -> Result<Worked<PlainEnvironment, NoState>, AllocError> {
+) -> Result<Worked<PlainEnvironment, PlainState>, AllocError> {
     let request = Request { after: 0, ask };
     let found = Found {
         env: Some(env.clone()?),
@@ -148,7 +148,92 @@ fn environments(rt: HostRuntime) -> Result<(), Fail> {
         found.as_slice()
             == b"{\"kind\":\"prim\",\"params\":[{\"name\":\"F\",\"type\":\"N() -> *\"},{\"name\":\"x\",\"type\":\"N()\"}],\"seq\":0,\"type\":\"F x\"}".as_slice()
     );
-    let found = said(alloc, &applied, Ask::Print { state: 0 })?;
+    let found = said(
+        alloc,
+        &applied,
+        Ask::Continue {
+            target: 0,
+            branch: 0,
+        },
+    )?;
     assert!(rt; found.as_slice() == b"{\"error\":\"notYet\",\"seq\":0}".as_slice());
+    Ok(())
+}
+
+/// The state that a request makes, and its reply, which is that of the first entry and makes state 0 where it makes one.
+fn step(
+    alloc: Global,
+    env: Option<&PlainEnvironment>,
+    state: Option<PlainState>,
+    ask: Ask,
+) -> Result<(Option<PlainState>, Vec<u8>), AllocError> {
+    let request = Request { after: 0, ask };
+    let env = match env {
+        Some(env) => Some(env.clone()?),
+        None => None,
+    };
+    let found = Found {
+        env,
+        one: state,
+        two: None,
+    };
+    match Program.work(alloc, &request, &found) {
+        Worked::NewState(made, body) => {
+            let mut text = line(alloc, &body)?;
+            text.extend_from_slice(b"0")?;
+            text.extend_from_slice(body.third.as_slice())?;
+            Ok((Some(made), text))
+        }
+        Worked::Said(body) => Ok((None, line(alloc, &body)?)),
+        _ => Ok((None, Vec::new(alloc))),
+    }
+}
+
+fn move_by(alloc: Global, text: &[u8]) -> Result<Ask, AllocError> {
+    Ok(Ask::Move {
+        state: 0,
+        goal: 0,
+        text: List::from_slice(alloc, text)?,
+        fuel: 100_000,
+        auto: true,
+    })
+}
+
+#[test]
+fn a_proof(rt: HostRuntime) -> Result<(), Fail> {
+    let alloc = rt.alloc();
+    let empty = PlainEnvironment::of(Environment::empty(alloc, TreeTerms::new(alloc)?)?);
+    let start = Ask::Start {
+        env: 0,
+        expr: List::from_slice(alloc, b"(A : *) -> A -> A")?,
+        fuel: 100_000,
+    };
+    let (mut state, found) = step(alloc, Some(&empty), None, start)?;
+    let wanted: &[u8] =
+        b"{\"goals\":[{\"goal\":0,\"target\":\"(%0 : *) -> %0 -> %0\",\"vars\":[]}],\"seq\":0,\"solved\":false,\"stateId\":0}";
+    assert!(rt; found.as_slice() == wanted);
+    let rows: [(&[u8], &[u8]); 3] = [
+        (
+            b"intro A",
+            b"{\"goals\":[{\"goal\":1,\"target\":\"A -> A\",\"vars\":[{\"name\":\"A\",\"type\":\"*\"}]}],\"seq\":0,\"solved\":false,\"stateId\":0}",
+        ),
+        (
+            b"intro x",
+            b"{\"goals\":[{\"goal\":2,\"target\":\"A\",\"vars\":[{\"name\":\"A\",\"type\":\"*\"},{\"name\":\"x\",\"type\":\"A\"}]}],\"seq\":0,\"solved\":false,\"stateId\":0}",
+        ),
+        (
+            b"exact x",
+            b"{\"goals\":[],\"seq\":0,\"solved\":true,\"stateId\":0}",
+        ),
+    ];
+    for (text, wanted) in rows {
+        let (next, found) = step(alloc, None, state, move_by(alloc, text)?)?;
+        assert!(rt; found.as_slice() == wanted);
+        state = next;
+    }
+    let (_, found) = step(alloc, None, state, Ask::Print { state: 0 })?;
+    let wanted: &[u8] =
+        b"{\"goals\":[],\"seq\":0,\"solved\":true,\"term\":\"fun (%0 : *) => fun (%1 : %0) => %1\",\"type\":\"(%0 : *) -> %0 -> %0\"}";
+    assert!(rt; found.as_slice() == wanted);
     Ok(())
 }

@@ -1,6 +1,6 @@
 //! The work of the server: the value of each command.
 
-ghost use Rattle.std.specs.Prelude.{◌≡◌, IfOk, length};
+ghost use Rattle.std.specs.Prelude.{◌≡◌, IfOk};
 ghost use Rattle.repl_json.specs.Bad.{bad_body as body_of};
 ghost use Rattle.repl_json.specs.declared.request.Bad.TheVariants.{NotYet};
 ghost use Rattle.state_tree.specs.Value.{Gives, Says, value_at};
@@ -11,77 +11,30 @@ use crate::env_add::add_items;
 use crate::env_inspect::{catalog, inspect};
 use crate::environment::Environment;
 use crate::expr_echo::echo;
+use crate::goal_move::{move_goal, print};
+use crate::goal_start::start;
+use crate::plain::{PlainEnvironment, PlainState};
+use crate::proof_state::ProofState;
 use ld_terms::TreeTerms;
 use repl_json::{Ask, Bad, Request, bad_body};
 use state_tree::{Found, Work, Worked};
 use std::alloc::{AllocError, Global};
-use std::marker::Model;
-
-/// The proof states of the server. No command that is built makes one.
-#[derive(Debug, Clone, Copy, PartialEq, Eq, Drop)]
-pub struct NoState;
 
 /// The commands of the server over plain terms. Each value of it is the same.
 #[derive(Debug, Clone, Copy, PartialEq, Eq, Drop)]
 pub struct Program;
 
-/// A legal environment over plain terms, as the server keeps it.
-#[derive(Drop)]
-pub struct PlainEnvironment {
-    env: Environment<TreeTerms>,
-}
-
-impl Model for PlainEnvironment {
-    ghost use Rattle.std.specs.Prelude.{List};
-    ghost use Rattle.std.specs.Coded.{coded_list};
-    ghost use Rattle.ld_trees.specs.Term.{Term};
-    ghost use Rattle.ld_terms.specs.declared.globals.Item.{Item};
-    ghost use Rattle.command_set.specs.Codes.{coded_item};
-
-    ghost Value = { List (Item Term) };
-
-    ghost coded = { coded_list coded_item };
-
-    ghost view = { λ e. e.env };
-}
-
-impl PlainEnvironment {
-    /// The same environment. Takes no memory.
-    pub fn of(env: Environment<TreeTerms>) -> PlainEnvironment
-        ensures { result ≡ env }
-    {
-        PlainEnvironment { env }
-    }
-
-    /// How many items there are. Takes no memory.
-    pub fn len(&self) -> u64
-        ensures { result ≡ length self.now }
-    {
-        self.env.stored().items.len()
-    }
-}
-
-impl Clone for PlainEnvironment {
-    ghost is_clone = { λ a b. b ≡ a };
-
-    fn clone(&self) -> Result<PlainEnvironment, AllocError> {
-        Ok(PlainEnvironment {
-            env: self.env.clone()?,
-        })
-    }
-}
-
 /// What the work of a request gives.
-type Given = Worked<PlainEnvironment, NoState>;
+type Given = Worked<PlainEnvironment, PlainState>;
 
-/// The same result, with the environment as the server keeps it.
-fn kept(worked: Worked<Environment<TreeTerms>, NoState>) -> Given
+/// The same result, with the environment or the state as the server keeps it.
+fn kept(worked: Worked<Environment<TreeTerms>, ProofState<TreeTerms>>) -> Given
     ensures { result ≡ worked }
 {
     match worked {
         Worked::Said(body) => Worked::Said(body),
         Worked::NewEnv(env, body) => Worked::NewEnv(PlainEnvironment::of(env), body),
-        Worked::NewState(state, body) => Worked::NewState(state, body),
+        Worked::NewState(state, body) => Worked::NewState(PlainState::of(state), body),
         Worked::Memory => Worked::Memory,
     }
 }
@@ -98,22 +51,37 @@ fn not_yet(alloc: Global) -> Result<Given, AllocError>
 fn try_work(
     alloc: Global,
     ask: &Ask,
-    found: &Found<PlainEnvironment, NoState>,
+    found: &Found<PlainEnvironment, PlainState>,
 ) -> Result<Given, AllocError>
     ensures { IfOk result (λ w. Gives (value_at value ask.now found.now) w) }
 {
-    match (ask, &found.env) {
-        (Ask::Bad(bad), _) => Ok(Worked::Said(bad_body(alloc, bad)?)),
-        (Ask::Echo { expr, fuel, .. }, Some(env)) => {
+    match (ask, &found.env, &found.one) {
+        (Ask::Bad(bad), _, _) => Ok(Worked::Said(bad_body(alloc, bad)?)),
+        (Ask::Echo { expr, fuel, .. }, Some(env), _) => {
             Ok(Worked::Said(echo(alloc, &env.env, expr.as_slice(), *fuel)?))
         }
-        (Ask::EnvAdd { text, fuel, .. }, Some(env)) => {
+        (Ask::EnvAdd { text, fuel, .. }, Some(env), _) => {
             Ok(kept(add_items(alloc, &env.env, text.as_slice(), *fuel)?))
         }
-        (Ask::EnvInspect { name, .. }, Some(env)) => {
+        (Ask::EnvInspect { name, .. }, Some(env), _) => {
             Ok(Worked::Said(inspect(alloc, &env.env, name.as_slice())?))
         }
-        (Ask::EnvCatalog { .. }, Some(env)) => Ok(Worked::Said(catalog(alloc, &env.env)?)),
+        (Ask::EnvCatalog { .. }, Some(env), _) => Ok(Worked::Said(catalog(alloc, &env.env)?)),
+        (Ask::Start { expr, fuel, .. }, Some(env), _) => {
+            Ok(kept(start(alloc, &env.env, expr.as_slice(), *fuel)?))
+        }
+        (
+            Ask::Move {
+                goal,
+                text,
+                fuel,
+                auto,
+                ..
+            },
+            _,
+            Some(state),
+        ) => Ok(kept(move_goal(alloc, &state.state, *goal, text.as_slice(), *fuel, *auto)?)),
+        (Ask::Print { .. }, _, Some(state)) => Ok(Worked::Said(print(alloc, &state.state)?)),
         _ => not_yet(alloc),
     }
 }
@@ -121,7 +89,7 @@ fn try_work(
 impl Work for Program {
     type Env = PlainEnvironment;
 
-    type State = NoState;
+    type State = PlainState;
 
     ghost value = { value };
 
@@ -129,8 +97,8 @@ impl Work for Program {
         &self,
         alloc: Global,
         request: &Request,
-        found: &Found<PlainEnvironment, NoState>,
-    ) -> Worked<PlainEnvironment, NoState> {
+        found: &Found<PlainEnvironment, PlainState>,
+    ) -> Worked<PlainEnvironment, PlainState> {
         match try_work(alloc, &request.ask, found) {
             Ok(worked) => worked,
             Err(_) => Worked::Memory,

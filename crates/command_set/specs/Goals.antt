@@ -1,0 +1,91 @@
+-- `goal.start`, `goal.move` and `goal.print`: a state is made, by a theorem or by a move, and shown.
+use Rattle.std.specs.Prelude.{ℕ, List, [], Bool, Some, None, Ok, Err, codes}
+use Rattle.ld_trees.specs.Term.{Term}
+use Rattle.ld_terms.specs.declared.globals.Item.{Item}
+use Rattle.term_syntax.specs.Lex.{Text}
+use Rattle.term_syntax.specs.Input.{place}
+use Rattle.term_syntax.specs.Reading.{Outcome as Parsed, read}
+use Rattle.term_syntax.specs.Scoping.{Resolved, scope}
+use Rattle.term_syntax.specs.declared.surface.Surface.{Surface}
+use Rattle.term_text.specs.Scoped.{arities}
+use Rattle.conversion.specs.Runs as kernel
+use Rattle.goal_state.specs.State.{State}
+use Rattle.goal_state.specs.Starting.{Started, TooDeep, Inferred, started}
+use Rattle.move_set.specs.Outcomes as move
+use Rattle.move_set.specs.Moves.{moved}
+use Rattle.state_print.specs.Pieces.{state_text}
+use Rattle.state_print.specs.Bodies.{made_body, printed_body}
+use Rattle.repl_json.specs.declared.reply.Body.{Body}
+use Rattle.reply_text.specs.declared.members.Members.{Members}
+use Rattle.reply_text.specs.Members.{body_text}
+use Rattle.reply_text.specs.Refusals as reply
+use Rattle.state_tree.specs.Value.{Value, Says, MakesState}
+
+-- why a move makes no state
+unfoldable pub move_refusal : move.Refusal → Members
+move_refusal (move.Syntax at) = reply.syntax at
+move_refusal (move.NoGoal index count) = reply.no_goal index count
+move_refusal move.NotYet = reply.plain (codes "notYet") None
+move_refusal (move.NameTaken name) = reply.name_taken None name
+move_refusal move.NotProduct = reply.plain (codes "notProduct") None
+move_refusal (move.Scope fault) = reply.scoping None fault
+move_refusal (move.Kernel r) = reply.kernel None r
+move_refusal move.TooManyMetas = reply.plain (codes "tooManyMetas") None
+move_refusal (move.TooDeep m) = reply.of_goal (codes "tooDeep") m
+move_refusal (move.Cycle m) = reply.of_goal (codes "cycle") m
+
+-- the reply that prints a state
+abbrev pub printed : State → Body
+printed s = printed_body (state_text s)
+
+-- what commands say and make, over plain environments and states
+abbrev pub Given : Type 0
+Given = Value (List (Item Term)) State
+
+-- a new state, and the reply that shows it
+abbrev pub makes : State → Given
+makes s = MakesState s (made_body (state_text s))
+
+-- what these members say, and nothing is made
+abbrev pub says : Members → Given
+says m = Says (body_text m)
+
+-- ---- `goal.start`
+
+-- what the inference of the theorem's sort leads to
+abbrev pub inferred : kernel.Outcome State → Given
+inferred (kernel.Gave s left) = makes s
+inferred (kernel.Refused r left) = says (reply.kernel None r)
+inferred kernel.OutOfFuel = says (reply.out_of_fuel None)
+
+-- the first state of a theorem, or why there is none
+abbrev pub begun : Started → Given
+begun (TooDeep m) = says (reply.of_goal (codes "tooDeep") m)
+begun (Inferred o) = inferred o
+
+module _ (items : List (Item Term)) (fuel : ℕ) where
+  -- a theorem whose names were resolved, or the first that couldn't be
+  abbrev pub resolved : Resolved Term → Given
+  resolved (Ok t) = begun (started items t fuel)
+  resolved (Err fault) = says (reply.scoping None fault)
+
+  -- a tree of the grammar, or the place at which the text is refused
+  abbrev pub parsed : Parsed Surface → Given
+  parsed (Ok p) = resolved (scope (arities items) [] p.0 [])
+  parsed (Err input) = says (reply.syntax (place input))
+
+-- the first state of the theorem that a text is as a closed term, with so many units of fuel
+unfoldable pub start : List (Item Term) → Text → ℕ → Given
+start items expr fuel = parsed items fuel (read expr)
+
+-- ---- `goal.move`
+
+-- the state behind a move, or why there is none
+abbrev pub made : move.Outcome State → Given
+made (move.Gave s left) = makes s
+made (move.Refused r left) = says (move_refusal r)
+made move.OutOfFuel = says (reply.out_of_fuel None)
+
+-- a move on the active goal at an index of a state
+abbrev pub move_on : State → ℕ → Text → ℕ → Bool → Given
+move_on s goal text fuel auto = made (moved s goal text fuel auto)
