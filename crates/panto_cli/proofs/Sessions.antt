@@ -2,12 +2,21 @@
 use Rattle.std.proofs.Common.{◌≡◌, ℕ, ◌≤◌, ◌^◌, inl, inr, List, [], ◌∷◌, length, Option, Some, refl, sym, ap, ◌∙◌, arith, subst}
 use Rattle.std.specs.Prelude.{IfSome}
 use Rattle.std.proofs.lemmas.List.{length-append, length-map}
+use Rattle.std.proofs.lemmas.List.Elements.{All-nil}
+use Rattle.ld_trees.specs.Term.{Term}
+use Rattle.ld_rules.specs.Derivation.{sort}
+use Rattle.ld_terms.specs.Names.{IsTextName}
+use Rattle.ld_terms.specs.declared.globals.Item.{Item}
+use Rattle.book_reader.specs.Reading.{read}
+use Rattle.book_reader.proofs.Whole.{legal_all, book_named}
 use Rattle.pan_io.specs.Books.{NamedBytes}
 use Rattle.term_syntax.specs.Lex.{Text}
 use Rattle.state_tree.specs.TreeModel.{TreeModel}
 use Rattle.state_tree.specs.Server.{IsLegal}
+use Rattle.command_set.specs.Theorems.{IsSound, AllPrintSoundly}
 use Rattle.command_set.specs.Values.{value}
-use Rattle.command_set.specs.declared.values.NoState.{NoState}
+use Rattle.command_set.proofs.Proved.{printed_proofs_are_proofs}
+use Rattle.goal_state.specs.State.{State}
 use Rattle.session_server.specs.Input.{requests_of_input}
 use Rattle.session_server.specs.Entered.{requests_in, Adds}
 use Rattle.session_server.specs.MemoryLines.{ShowsMemory}
@@ -43,9 +52,16 @@ no_open (ending.Worn n) e = absurd cc
 no_open (ending.Long n) e = absurd cc
 no_open ending.Memory e = absurd cc
 
+-- a book that is accepted makes a legal environment, whose items have names of the texts
+book_is_sound : (books : Option (List NamedBytes)) (file : Option Text) (items : Items) → Accepts books file items → IsSound items
+book_is_sound books file items accepts = record {
+  legal = legal_all 10000000 [] (read accepts.text) items sort accepts.value;
+  named = book_named 10000000 [] accepts.text items (All-nil (λ (i : Item Term). IsTextName i.name)) accepts.value;
+}
+
 module _ (items : Items) (entries : ℕ) (input left out out' : Option (List ℕ)) (tree : TreeModel Items) where
   abbrev Ran : End → Type 0
-  Ran end = Session {S = NoState} value input left (opened items entries) tree out out' end
+  Ran end = Session {S = State} value input left (opened items entries) tree out out' end
 
   -- a full journal holds the entries that the words leave room for
   pub full_number : (n : ℕ) → Ran (ending.Full n) → n ≡ entries
@@ -60,31 +76,35 @@ module _ (items : Items) (entries : ℕ) (input left out out' : Option (List ℕ
   note_is books file (ending.Long n) s = refl
   note_is books file ending.Memory s = refl
 
-  pub runs_so : (books : Option (List NamedBytes)) (file : Option Text) → Accepts books file items → IsLegal {S = NoState} value items tree.journal → (end : End) → Ran end → ShowsMemory 0 tree.journal out out' end → Runs books file entries input left out out' (status_of end)
-  runs_so books file accepts legal ending.Done s shown = (items, accepts, record { end = ending.Done; named = refl; tree = tree; session = s; legal = legal; shown = shown })
-  runs_so books file accepts legal ending.ReadFault s shown = (items, accepts, record { end = ending.ReadFault; named = refl; tree = tree; session = s; legal = legal; shown = shown })
-  runs_so books file accepts legal ending.WriteFault s shown = (items, accepts, record { end = ending.WriteFault; named = refl; tree = tree; session = s; legal = legal; shown = shown })
-  runs_so books file accepts legal (ending.Full n) s shown = (items, accepts, record { end = ending.Full n; named = refl; tree = tree; session = s; legal = legal; shown = shown })
+  -- what is printed as solved is proved, over a book that was accepted
+  proofs_shown : (books : Option (List NamedBytes)) (file : Option Text) → Accepts books file items → AllPrintSoundly items tree.journal
+  proofs_shown books file accepts = printed_proofs_are_proofs items tree.journal (book_is_sound books file items accepts)
+
+  pub runs_so : (books : Option (List NamedBytes)) (file : Option Text) → Accepts books file items → IsLegal {S = State} value items tree.journal → (end : End) → Ran end → ShowsMemory 0 tree.journal out out' end → Runs books file entries input left out out' (status_of end)
+  runs_so books file accepts legal ending.Done s shown = (items, accepts, record { end = ending.Done; named = refl; tree = tree; session = s; legal = legal; shown = shown }, proofs_shown books file accepts)
+  runs_so books file accepts legal ending.ReadFault s shown = (items, accepts, record { end = ending.ReadFault; named = refl; tree = tree; session = s; legal = legal; shown = shown }, proofs_shown books file accepts)
+  runs_so books file accepts legal ending.WriteFault s shown = (items, accepts, record { end = ending.WriteFault; named = refl; tree = tree; session = s; legal = legal; shown = shown }, proofs_shown books file accepts)
+  runs_so books file accepts legal (ending.Full n) s shown = (items, accepts, record { end = ending.Full n; named = refl; tree = tree; session = s; legal = legal; shown = shown }, proofs_shown books file accepts)
   runs_so books file accepts legal (ending.Worn n) s shown = absurd s.tells
-  runs_so books file accepts legal (ending.Long n) s shown = (items, accepts, record { end = ending.Long n; named = refl; tree = tree; session = s; legal = legal; shown = shown })
-  runs_so books file accepts legal ending.Memory s shown = inr (items, accepts, record { end = ending.Memory; named = refl; tree = tree; session = s; legal = legal; shown = shown })
+  runs_so books file accepts legal (ending.Long n) s shown = (items, accepts, record { end = ending.Long n; named = refl; tree = tree; session = s; legal = legal; shown = shown }, proofs_shown books file accepts)
+  runs_so books file accepts legal ending.Memory s shown = inr (items, accepts, record { end = ending.Memory; named = refl; tree = tree; session = s; legal = legal; shown = shown }, proofs_shown books file accepts)
 
   own_lines : (end : End) → Ran end → ((es : List Entry) → Adds (opened items entries) tree es → ShowsMemory 0 es out out' end) → ShowsMemory 0 tree.journal out out' end
   own_lines end s shows = subst (λ es. ShowsMemory 0 es out out' end) (sym (ap (λ (t : TreeModel Items). t.journal) s.adds.grows)) (shows s.entries s.adds)
 
   -- what a session over a new tree leaves
-  pub answered_so : (old : TreeModel Items) → old.book ≡ items → old.entries ≡ entries → old.journal ≡ [] → (end : End) → Session {S = NoState} value input left old tree out out' end
-      → IsLegal {S = NoState} value tree.book tree.journal → ((es : List Entry) → Adds old tree es → ShowsMemory (length old.journal) es out out' end)
+  pub answered_so : (old : TreeModel Items) → old.book ≡ items → old.entries ≡ entries → old.journal ≡ [] → (end : End) → Session {S = State} value input left old tree out out' end
+      → IsLegal {S = State} value tree.book tree.journal → ((es : List Entry) → Adds old tree es → ShowsMemory (length old.journal) es out out' end)
       → (o : Outcome) → o ≡ outcome_of end → Answered items entries input left out out' (status_in o)
   answered_so old b e j end s legal shows o is =
       let same : old ≡ opened items entries = λ i. record { book = b i; entries = e i; journal = j i } in
-      let own : Ran end = subst (λ (g : TreeModel Items). Session {S = NoState} value input left g tree out out' end) same s in
+      let own : Ran end = subst (λ (g : TreeModel Items). Session {S = State} value input left g tree out out' end) same s in
       record {
         end = end;
         named = ap status_in is ∙ status_is end;
         tree = tree;
         session = own;
-        legal = subst (λ (b : Items). IsLegal {S = NoState} value b tree.journal) (ap (λ (t : TreeModel Items). t.book) own.adds.grows) legal;
+        legal = subst (λ (b : Items). IsLegal {S = State} value b tree.journal) (ap (λ (t : TreeModel Items). t.book) own.adds.grows) legal;
         shown = own_lines end own (subst (λ (g : TreeModel Items). (es : List Entry) → Adds g tree es → ShowsMemory (length g.journal) es out out' end) same shows);
       }
 

@@ -5,8 +5,9 @@ use Rattle.term_syntax.specs.Lex.{Text}
 use Rattle.pan_io.specs.Books.{NamedBytes}
 use Rattle.pan_io.specs.Put.{AppendsPrefix}
 use Rattle.command_line.specs.Form.{Command, run, serve, check, demo}
+use Rattle.command_set.specs.Theorems.{AllPrintSoundly}
 use Rattle.command_set.specs.Values.{value}
-use Rattle.command_set.specs.declared.values.NoState.{NoState}
+use Rattle.goal_state.specs.State.{State}
 use Rattle.state_tree.specs.TreeModel.{TreeModel}
 use Rattle.state_tree.specs.Server.{IsLegal}
 use Rattle.session_server.specs.Input.{requests_of_input}
@@ -46,13 +47,16 @@ pub record Answered (items : Items) (entries : ℕ) (input left out out' : Optio
   pub end : End
   pub named : status ≡ status_of end
   pub tree : TreeModel Items
-  pub session : Session {S = NoState} value input left (opened items entries) tree out out' end
-  pub legal : IsLegal {S = NoState} value items tree.journal
+  pub session : Session {S = State} value input left (opened items entries) tree out out' end
+  pub legal : IsLegal {S = State} value items tree.journal
   pub shown : ShowsMemory 0 tree.journal out out' end
 
--- a session over the book that the words name
+-- A session over the book that the words name. Each reply that prints a state as solved shows a proof: the text under `term` reads, in the
+-- state's environment and without names, as a closed term without metavariables, which the rules of λD derive there to have the state's
+-- type, and that is what the text of the state's `goal.start` reads as. A term too large to be printed is derived itself.
 abbrev pub Serves : Option (List NamedBytes) → Option Text → ℕ → Option (List ℕ) → Option (List ℕ) → Option (List ℕ) → Option (List ℕ) → Status → Type 0
-Serves books file entries input left out out' status = (items : Items) × Accepts books file items × Answered items entries input left out out' status
+Serves books file entries input left out out' status =
+    (items : Items) × Accepts books file items × (answered : Answered items entries input left out out' status) × AllPrintSoundly items answered.tree.journal
 
 -- what `run` leaves
 abbrev pub Runs : Option (List NamedBytes) → Option Text → ℕ → Option (List ℕ) → Option (List ℕ) → Option (List ℕ) → Option (List ℕ) → Status → Type 0

@@ -18,4 +18,6 @@ mod bad_input_tests;
 #[cfg(test)]
 mod book_tests;
 #[cfg(test)]
+mod goal_tests;
+#[cfg(test)]
 mod tests;
