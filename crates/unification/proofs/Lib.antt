@@ -1,0 +1,17 @@
+pub mod Gives
+pub mod Reach
+pub mod Declarations
+pub mod Inverted
+pub mod Spots
+pub mod Replaced
+pub mod Pairs
+pub mod Kept
+pub mod Moved
+pub mod Joined
+pub mod Settling
+pub mod Solving
+pub mod Sound
+pub mod Footprint
+pub mod Words
+pub mod Occurring
+pub mod FuelLaws

@@ -1,0 +1,9 @@
+pub mod Steps
+pub mod Refusals
+pub mod Metavariables
+pub mod Patterns
+pub mod Pruning
+pub mod Solving
+pub mod Unification
+pub mod Laws
+pub mod Examples
