@@ -1,0 +1,9 @@
+pub mod Induction
+pub mod Renamed
+pub mod Reach
+pub mod Standing
+pub mod Calls
+pub mod Nodes
+pub mod Sound
+pub mod Fuel
+pub mod Equations

@@ -1,0 +1,4 @@
+pub mod Refusals
+pub mod Elaboration
+pub mod Laws
+pub mod Examples
