@@ -18,3 +18,6 @@ pub use fault::MetaFault;
 pub use laws::{declarations_compute, declarations_mean_the_same, plain_items_mean_the_same};
 pub use metas::{MOST_METAS, Metas};
 pub use walk::depends;
+
+#[cfg(test)]
+mod tests;
