@@ -20,3 +20,6 @@ pub use laws::{
 };
 pub use state::GoalState;
 pub use unfolding::unfold_metas;
+
+#[cfg(test)]
+mod tests;
