@@ -17,3 +17,6 @@ pub use laws::{
 };
 pub use printing::print_state;
 pub use text::StateText;
+
+#[cfg(test)]
+mod tests;
