@@ -1,0 +1,5 @@
+pub mod Coupling
+pub mod Laws
+pub mod Looks
+pub mod Marks
+pub mod Examples
