@@ -18,3 +18,6 @@ pub use examples::moves_compute;
 pub use fault::{MoveFault, Refused};
 pub use laws::{moving_has_footprint, moving_is_legal, moving_keeps};
 pub use running::run_move;
+
+#[cfg(test)]
+mod tests;
