@@ -14,5 +14,5 @@ mod tests;
 pub use cursor::Cursor;
 pub use print::{Printed, level_name, print_term};
 pub use read::{read_term, read_term_at};
-pub use scope::scope_term;
+pub use scope::{index_of, label_name, scope_term};
 pub use term_syntax::{Label, ReadFault, ScopeFault, Shape, Surface};

@@ -105,8 +105,13 @@ fn add_u32(m: u32, n: u32) -> Result<u32, AllocError>
     m.checked_add(n).ok_or(AllocError)
 }
 
-/// The index of what a label names. Fails where it does not fit.
-fn index_of(names: &[Name], bound: &[Option<&Label>], x: &Label) -> Result<Option<u32>, AllocError>
+/// The index of what a label names, behind these binders, the outermost first, in a context whose entries have these names; `None` where
+/// nothing has the label. Takes no memory: it fails where the index is above 4,294,967,295.
+pub fn index_of(
+    names: &[Name],
+    bound: &[Option<&Label>],
+    x: &Label,
+) -> Result<Option<u32>, AllocError>
     ensures { IfOk result (λ i. i ≡ spec.index_of names.now x.now (bound_of bound.now)) }
 {
     let mut passed: u32 = 0;
@@ -127,8 +132,8 @@ fn index_of(names: &[Name], bound: &[Option<&Label>], x: &Label) -> Result<Optio
     }
 }
 
-/// The bytes of a label as a name.
-fn label_name(alloc: Global, x: &Label) -> Result<Name, AllocError>
+/// The bytes of a label as a name. Fails for want of memory alone.
+pub fn label_name(alloc: Global, x: &Label) -> Result<Name, AllocError>
     ensures { IfOk result (λ n. n ≡ spec.label_text x.now) }
 {
     match x {
