@@ -7,3 +7,7 @@ pub mod Nodes
 pub mod Sound
 pub mod Fuel
 pub mod Equations
+pub mod Holes
+pub mod Growth
+pub mod Added
+pub mod Order

@@ -1,4 +1,5 @@
 pub mod Refusals
 pub mod Elaboration
 pub mod Laws
+pub mod Order
 pub mod Examples

@@ -7,6 +7,7 @@ ghost use Rattle.unification.specs.Steps.{Gave, Refused, OutOfFuel};
 ghost use Rattle.unification.specs.Refusals.{Mismatch, NotPattern, Cycle};
 ghost use Rattle.elaboration.specs.Refusals.{Unify, UnknownName, WrongCount, NoExpected, NotFunction, NotType};
 ghost use Rattle.elaboration.specs.Elaboration.{synth, check, check_type};
+ghost use Rattle.elaboration.specs.Order.{Asked, Wild, holes_of, asked_among, wild_among, AreInTextOrder};
 ghost use Rattle.elaboration.specs.Examples.{
   N,
   a,
@@ -20,6 +21,7 @@ ghost use Rattle.elaboration.specs.Examples.{
   refl_of,
   falsum,
   not_of,
+  entry,
   order_book,
   cycle_book,
   negation_book,
@@ -82,6 +84,24 @@ pub fn elaboration_computes()
     // `(fun (B : *) => fun (y : B) => y) A x` in A : *, x : A
     ensures two_arguments { synth [] [] with_x (applied 1 (function 1 (codes "B") (star 10) (function 16 (codes "y") (named 25 (codes "B")) (named 31 (codes "y")))) (named 34 (codes "A") ∷ named 36 (codes "x") ∷ [])) 11
         ≡ Gave (given [] [] [] (App (App (Lam Star (Lam (Var 0) (Var 0))) (Var 1)) (Var 0)) (Var 1)) 0 }
+{}
+
+/// Worked examples of the holes of texts and of their numbers.
+pub fn holes_compute()
+    // `trans(_, ?, _, ?, ?)`, of which the outcome against `le(a(), b())` is among the examples above
+    ensures holes { holes_of (call 0 (codes "trans") (wild 6 ∷ asked 9 ∷ wild 12 ∷ asked 15 ∷ asked 18 ∷ [])) ≡ Wild 6 ∷ Asked 9 ∷ Wild 12 ∷ Asked 15 ∷ Asked 18 ∷ [] }
+    ensures goals { asked_among (Wild 6 ∷ Asked 9 ∷ Wild 12 ∷ Asked 15 ∷ Asked 18 ∷ []) (0 ∷ 1 ∷ 2 ∷ 3 ∷ 4 ∷ []) ≡ 1 ∷ 3 ∷ 4 ∷ [] }
+    ensures places { wild_among (Wild 6 ∷ Asked 9 ∷ Wild 12 ∷ Asked 15 ∷ Asked 18 ∷ []) (0 ∷ 1 ∷ 2 ∷ 3 ∷ 4 ∷ []) ≡ (0, 6) ∷ (2, 12) ∷ [] }
+    // `(fun (x : _) => x) ?`: the holes of the head come before those of the arguments
+    ensures head { holes_of (applied 1 (function 1 (codes "x") (wild 10) (named 16 (codes "x"))) (asked 19 ∷ [])) ≡ Wild 10 ∷ Asked 19 ∷ [] }
+    ensures head_first { synth [] [] [] (applied 1 (function 1 (codes "x") (wild 10) (named 16 (codes "x"))) (asked 19 ∷ [])) 8
+        ≡ Gave (given (open_in [] Star ∷ open_in [] (Meta 0 none) ∷ []) (1 ∷ []) ((0, 10) ∷ []) (App (Lam (Meta 0 none) (Var 0)) (Meta 1 none)) (Meta 0 none)) 0 }
+    // `fun (x : (y : N()) -> eq(s(_), z())) => ?` against `(N() -> eq(?0[], z())) -> N()`: where the domains are unified, metavariable 2 is declared
+    ensures gap { check cycle_book (open_in [] N ∷ []) [] (function 0 (codes "x") (product 9 (codes "y") (call 14 (codes "N") []) (call 22 (codes "eq") (call 25 (codes "s") (wild 27 ∷ []) ∷ call 31 (codes "z") [] ∷ []))) (asked 40)) (Pi (Pi N (eq (Meta 0 none) z)) N) 26
+        ≡ Gave (given (valued [] N (s (Meta 2 none)) ∷ valued (entry (codes "y") N ∷ []) N (Meta 2 none) ∷ open_in [] N ∷ open_in (entry (codes "x") (Pi N (eq (s (Meta 1 (none ▹ Var 0))) z)) ∷ []) N ∷ []) (3 ∷ []) ((1, 27) ∷ [])
+        (Lam (Pi N (eq (s (Meta 1 (none ▹ Var 0))) z)) (Meta 3 (none ▹ Var 0))) (Pi (Pi N (eq (Meta 0 none) z)) N)) 0 }
+    // `le(?, ?)`: numbers from right to left are in no text order
+    ensures not_from_the_right { AreInTextOrder [] (call 0 (codes "le") (asked 3 ∷ asked 6 ∷ [])) (given (open_in [] N ∷ open_in [] N ∷ []) (1 ∷ 0 ∷ []) [] (le (Meta 1 none) (Meta 0 none)) Star) → ⊥ }
 {}
 
 /// Worked examples of texts that are refused.

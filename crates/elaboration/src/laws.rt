@@ -1,6 +1,7 @@
 //! The laws of elaboration. Each function is a law, stated by its contract; none is called at run time.
 
 ghost use Rattle.elaboration.specs.Laws.{ElaborationHasFuelLaw, SynthesisIsSound, CheckingIsSound, CheckingTypesIsSound};
+ghost use Rattle.elaboration.specs.Order.{HolesAreNumberedInTextOrder};
 
 /// The fuel law of elaboration, in both directions and as a type: an answer with n units that used u comes with each number of units of
 /// at least u, which leaves u fewer, and fewer than u are too few.
@@ -25,4 +26,10 @@ pub fn checking_is_sound()
 #[tactic(auto, using(crate::proofs::Sound::checking_types_is_sound))]
 pub fn checking_types_is_sound()
     ensures { CheckingTypesIsSound }
+{}
+
+/// The holes of a text have one metavariable each, whose numbers ascend in text order, from any metavariables on and in any context: what
+/// is elaborated lists the `?`, and the `_` with their places, with these numbers.
+pub fn holes_are_numbered_in_text_order()
+    ensures { HolesAreNumberedInTextOrder }
 {}
