@@ -1,6 +1,7 @@
 -- The first bad variable of a term decides which variables it holds only, and where the variable stands.
 use Rattle.std.proofs.Common.{◌≡◌, ℕ, suc, ◌+◌, ◌-◌, ◌<◌, List, [], ◌∷◌, ◌++◌, Bool, true, false, ◌&&◌, ◌||◌, nat_lt, Option, Some, None, is_none, is_some, not, length, take, drop, map, get_or, refl, sym, ap, ap₂, ◌∙◌, arith, if◌then◌else◌}
 use Rattle.std.proofs.lemmas.Bool.{false≢true}
+use Rattle.std.specs.Option.{option_or}
 use Rattle.ld_trees.specs.Term.{Named, Numbered, Term, Srt, Var, App, Lam, Pi, Con, Terms, none, ◌▹◌}
 use Rattle.ld_terms.specs.Views.{terms_onto, terms_of}
 use Rattle.goal_state.specs.State.{is_open}
@@ -15,6 +16,17 @@ use Rattle.pattern_unify.proofs.Onto.{done_and_rest, one_more_done}
 -- one binder more
 deeper : {A : Type 0} (k : ℕ) (f : ℕ → A) → f (suc k) ≡ f (k + 1)
 deeper k f = ap f (omega arith)
+
+-- ---- the first of two
+
+pub or_is : (o p q : Option ℕ) → or_next (or_next o p) q ≡ or_next o (or_next p q)
+or_is None p q = refl
+or_is (Some i) p q = refl
+
+pub or_spot_is : (s z w : Spot) → or_spot (or_spot s z) w ≡ or_spot s (or_spot z w)
+or_spot_is Nowhere z w = refl
+or_spot_is (Outside i) z w = refl
+or_spot_is (Inside i m marks) z w = refl
 
 -- ---- a term holds good variables only where none is bad
 
@@ -138,6 +150,30 @@ module _ (metas : Plain) (good : ℕ → Bool) (k : ℕ) where
 
     pub spot_now : (s : Spot) → IsSomewhere s → s ≡ free_spot metas good k (means h) → s ≡ free_spot_of metas good k (terms_of (map means hs))
     spot_now s q p = sym (ap (free_spot_of metas good k) (done_and_rest means hs (n + 1)) ∙ spot_onto (terms_of (map means (take (n + 1) hs))) (map means (drop (n + 1) hs)) s q (next_spot ∙ sym p))
+
+-- ---- in an application that is walked down to its head: what was found so far stands behind the rest w of the spine, and the whole finds x
+
+or_again : (o p : Option ℕ) → option_or o p ≡ or_next o p
+or_again None p = refl
+or_again (Some i) p = refl
+
+module _ (good : ℕ → Bool) (k : ℕ) (w : Term) (found o r x : Option ℕ) (y : r ≡ option_or o found) (z : or_next (bad_variable good k w) found ≡ x) where
+  pub bad_further : (g b : Term) → App g b ≡ w → o ≡ bad_variable good k b → or_next (bad_variable good k g) r ≡ x
+  bad_further g b e q =
+      ap (or_next (bad_variable good k g)) (y ∙ or_again o found ∙ ap (λ n. or_next n found) q)
+      ∙ sym (or_is (bad_variable good k g) (bad_variable good k b) found) ∙ ap (λ t. or_next (bad_variable good k t) found) e ∙ z
+
+  pub bad_ended : o ≡ bad_variable good k w → r ≡ x
+  bad_ended q = y ∙ or_again o found ∙ ap (λ n. or_next n found) q ∙ z
+
+module _ (metas : Plain) (good : ℕ → Bool) (k : ℕ) (w : Term) (found s r x : Spot) (y : r ≡ or_spot s found) (z : or_spot (free_spot metas good k w) found ≡ x) where
+  pub spot_further : (g b : Term) → App g b ≡ w → s ≡ free_spot metas good k b → or_spot (free_spot metas good k g) r ≡ x
+  spot_further g b e q =
+      ap (or_spot (free_spot metas good k g)) (y ∙ ap (λ n. or_spot n found) q)
+      ∙ sym (or_spot_is (free_spot metas good k g) (free_spot metas good k b) found) ∙ ap (λ t. or_spot (free_spot metas good k t) found) e ∙ z
+
+  pub spot_ended : s ≡ free_spot metas good k w → r ≡ x
+  spot_ended q = y ∙ ap (λ n. or_spot n found) q ∙ z
 
 -- one more mark
 pub marks_more : {H : Type 0} (good : ℕ → Bool) (k : ℕ) (means : H → Term) (hs : List H) (n : ℕ) (h : H) → n < length hs → h ≡ get_or hs n h →

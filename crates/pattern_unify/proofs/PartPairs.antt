@@ -1,9 +1,9 @@
 -- The parts of two terms as pairs of handles, the last pair first.
 use Rattle.std.proofs.Common.{◌≡◌, ◌≢◌, ℕ, zero, suc, ◌+◌, ◌<◌, List, [], ◌∷◌, ◌++◌, map, drop, length, All, Bool, true, false, ◌&&◌, nat_eq, get_or, refl, sym, ap, ap₂, ◌∙◌, append_assoc, arith}
-use Rattle.std.proofs.lemmas.Bool.{eq-eqb}
+use Rattle.std.proofs.lemmas.Bool.{eq-eqb, false≢true}
 use Rattle.std.proofs.lemmas.List.{append-nil}
 use Rattle.std.proofs.lemmas.List.Elements.{All-append}
-use Rattle.ld_trees.specs.Term.{Head, Term, App, Lam, Pi, Con, Terms, none, ◌▹◌, count, same_head}
+use Rattle.ld_trees.specs.Term.{Head, Named, Numbered, Term, App, Lam, Pi, Con, Terms, none, ◌▹◌, count, same_head}
 use Rattle.ld_trees.proofs.Equality.{same_head_is, same_head_itself}
 use Rattle.ld_terms.specs.Views.{terms_onto, terms_of}
 use Rattle.conversion.specs.Conversion.{alike}
@@ -11,10 +11,21 @@ use Rattle.conversion.proofs.NextSteps.{count_map}
 use Rattle.conversion.proofs.Spines.{all_pushed}
 use Rattle.unification.specs.Unification.{pair, argument_pairs, part_pairs}
 use Rattle.pattern_unify.specs.declared.pairs.Pair.{Pair as StoredPair}
-use Rattle.pattern_unify.specs.Pairs.{plain_pair, pairs_back, back_pairs, ArePaired, ArePartsAdded, IsPairHeld}
+use Rattle.pattern_unify.specs.Pairs.{plain_pair, pairs_back, back_pairs, ArePaired, ArePairedIf, ArePartsAdded, IsPairHeld}
 
 abbrev pub two : {H : Type 0} → ℕ → H → H → StoredPair H
 two d u v = record { depth = d; found = u; wanted = v }
+
+-- ---- equal heads
+
+pub same_name : (x y : List ℕ) → Named x ≡ Named y → x ≡ y
+same_name x y e = cc
+
+pub same_number : (m n : ℕ) → nat_eq m n ≡ true → Numbered m ≡ Numbered n
+same_number m n e = ap Numbered (grind (arith, e))
+
+pub number_same : (m n : ℕ) → Numbered m ≡ Numbered n → nat_eq m n ≡ true
+number_same m n e = let q : m ≡ n = cc in eq-eqb m n q
 
 module _ (d : ℕ) where
   -- ---- lists of pairs, the last pair first
@@ -51,6 +62,10 @@ module _ (d : ℕ) where
   pub arguments_held : {H : Type 0} (holds : H → Type 0) (us vs : List H) (ps qs : List (StoredPair H)) (r : Bool) → All holds us → All holds vs → All (IsPairHeld holds) ps → ArePaired d us vs ps qs r → All (IsPairHeld holds) qs
   arguments_held holds us vs ps qs true a b h e = rw e.1 (All-append (IsPairHeld holds) ps (back_pairs d us vs) h (all_between holds us vs a b))
   arguments_held holds us vs ps qs false a b h e = rw e.1 h
+
+  pub held_if : {H : Type 0} (holds : H → Type 0) (us vs : List H) (ps qs : List (StoredPair H)) (x r : Bool) → All holds us → All holds vs → All (IsPairHeld holds) ps → ArePairedIf x d us vs ps qs r → All (IsPairHeld holds) qs
+  held_if holds us vs ps qs true r a b h e = arguments_held holds us vs ps qs r a b h e
+  held_if holds us vs ps qs false r a b h e = rw e.1 h
 
   -- one pair more, from the end of two lists
   one_pair_more : {H : Type 0} (us vs : List H) (i : ℕ) (u v : H) → i < length us → i < length vs → u ≡ get_or us i u → v ≡ get_or vs i v →
@@ -113,6 +128,13 @@ module _ (d : ℕ) where
         differ : (x : Bool) → same_head h k ≡ x → same_head h k ≡ false
         differ true q = absurd (n (same_head_is h k q))
         differ false q = q
+
+    -- of two whose names are the same where a test says so
+    pub heads_paired : (a b : Term) (h k : Head) (us vs : List H) (ps qs : List (StoredPair H)) (x r : Bool) → Con h (terms_of (map means us)) ≡ a → Con k (terms_of (map means vs)) ≡ b →
+        (x ≡ true → h ≡ k) → (h ≡ k → x ≡ true) → ArePairedIf x d us vs ps qs r → ArePartsAdded means d a b ps qs r
+    heads_paired a b h k us vs ps qs true r e f y n p = heads_added a b h k us vs ps qs r e f (y refl) p
+    heads_paired a b h k us vs ps qs false r e f y n p =
+        rw p.0 (heads_differ a b h k (terms_of (map means us)) (terms_of (map means vs)) ps qs e f (λ q. false≢true (n q)))
 
     -- of two applications: one pair more
     pub applications_added : (a b : Term) (f u k v : H) (ps qs : List (StoredPair H)) → App (means f) (means u) ≡ a → App (means k) (means v) ≡ b → qs ≡ ps ++ two d u v ∷ [] →

@@ -23,6 +23,11 @@ abbrev pub ArePaired : {H : Type 0} → ℕ → List H → List H → List (Stor
 ArePaired d us vs ps qs true = (length us ≡ length vs) × (qs ≡ ps ++ back_pairs d us vs)
 ArePaired d us vs ps qs false = (length us ≢ length vs) × (qs ≡ ps)
 
+-- the same where two heads are the same one, and else nothing was added
+abbrev pub ArePairedIf : {H : Type 0} → Bool → ℕ → List H → List H → List (StoredPair H) → List (StoredPair H) → Bool → Type 0
+ArePairedIf true d us vs ps qs r = ArePaired d us vs ps qs r
+ArePairedIf false d us vs ps qs r = (r ≡ false) × (qs ≡ ps)
+
 -- pairs to which the parts of two terms were added, where the terms are alike
 abbrev pub ArePartsAdded : {H : Type 0} → (H → Term) → ℕ → Term → Term → List (StoredPair H) → List (StoredPair H) → Bool → Type 0
 ArePartsAdded means d a b ps qs true = (alike a b ≡ true) × (pairs_back means qs ≡ part_pairs d a b ++ pairs_back means ps)

@@ -11,8 +11,10 @@ mod names;
 mod pairs;
 mod plans;
 mod renaming;
+mod replacing;
 mod sides;
 mod solving;
+mod spines;
 mod spots;
 mod unifying;
 mod variables;
@@ -21,3 +23,8 @@ pub use fault::UnifyFault;
 pub use metavariables::{declare_in, extend};
 pub use names::name_at;
 pub use unifying::{settle, unify};
+
+#[cfg(test)]
+mod fixtures;
+#[cfg(test)]
+mod tests;

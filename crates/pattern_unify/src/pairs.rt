@@ -4,7 +4,7 @@ ghost use Rattle.std.specs.Prelude.{◌≡◌, ◌+◌, ◌++◌, ◌∷◌, [],
 ghost use Rattle.conversion.specs.Conversion.{is_defined_at_head};
 ghost use Rattle.conversion.specs.Globals.{env_of};
 ghost use Rattle.conversion.specs.Spines.{AreNotBothApplied};
-ghost use Rattle.pattern_unify.specs.Pairs.{ArePaired, ArePartsAdded, ArePairs, ArePairsHeld};
+ghost use Rattle.pattern_unify.specs.Pairs.{ArePaired, ArePairedIf, ArePartsAdded, ArePairs, ArePairsHeld};
 
 use ld_terms::{Globals, Terms, View};
 use std::alloc::{AllocError, Global};
@@ -55,6 +55,24 @@ fn pair_arguments<H: Copy>(
         })?;
     }
     Ok(true)
+}
+
+/// Adds the pairs of the arguments of two heads, the last pair first, where the heads are the same and have equally many. Else it is
+/// false, and nothing is added.
+fn pair_if<H: Copy>(
+    is_same: bool,
+    depth: u32,
+    us: &[H],
+    vs: &[H],
+    pairs: &mut Vec<Pair<H>>,
+) -> Result<bool, AllocError>
+    ensures { IfOk result (ArePairedIf is_same depth us.now vs.now pairs.old.items pairs.new.items) }
+{
+    if is_same {
+        pair_arguments(depth, us, vs, pairs)
+    } else {
+        Ok(false)
+    }
 }
 
 /// Adds the pairs of the parts of two binders, the last pair first. A depth above 4,294,967,295 counts as want of memory.
@@ -108,20 +126,8 @@ fn pair_heads<T: Terms>(
             pair_binders(depth, (t, s), (m, n), pairs)?;
             Ok(true)
         }
-        (View::Const(c, us), View::Const(d, vs)) => {
-            if c.same(d) {
-                pair_arguments(depth, us, vs, pairs)
-            } else {
-                Ok(false)
-            }
-        }
-        (View::Meta(m, us), View::Meta(n, vs)) => {
-            if m == n {
-                pair_arguments(depth, us, vs, pairs)
-            } else {
-                Ok(false)
-            }
-        }
+        (View::Const(c, us), View::Const(d, vs)) => pair_if(c.same(d), depth, us, vs, pairs),
+        (View::Meta(m, us), View::Meta(n, vs)) => pair_if(m == n, depth, us, vs, pairs),
         _ => Ok(false),
     }
 }

@@ -1,14 +1,14 @@
-//! Terms with other variables, and terms in which a metavariable is replaced.
+//! Terms with other variables.
 
 ghost use Rattle.std.specs.Prelude.{◌≡◌, ◌+◌, IfOk, All, map};
-ghost use Rattle.ld_trees.specs.Term.{Var, Meta};
+ghost use Rattle.ld_trees.specs.Term.{Var, App};
 ghost use Rattle.ld_trees.specs.Substitution as tree;
 ghost use Rattle.ld_terms.specs.Views.{Keeps, terms_of};
-ghost use Rattle.unification.specs.Pruning as pruning;
-ghost use Rattle.pattern_unify.specs.Walks.{renamed_at, all_renamed_at, IsSpent};
+ghost use Rattle.pattern_unify.specs.Walks.{renamed_at, all_renamed_at};
 
+use crate::spines::spine_of;
 use crate::variables::Names;
-use ld_terms::{Fuel, Terms, View, subst_all};
+use ld_terms::{Terms, View};
 use std::alloc::{AllocError, Global};
 
 /// A term in which each variable has its new number. Older handles keep their meaning.
@@ -46,18 +46,13 @@ fn rename_at<T: Terms, N: Names>(
     match terms.node(h) {
         View::Star | View::Square => Ok(h),
         View::Var(i) => rename_variable(alloc, terms, names, under, i),
-        View::App(f, a) => {
-            let (f, a) = rename_two(alloc, terms, names, under, under, f, a)?;
-            terms.make(alloc, View::App(f, a))
-        }
+        View::App(f, a) => rename_application(alloc, terms, names, under, f, a),
         View::Lam(a, m) => {
-            let below = under.checked_add(1).ok_or(AllocError)?;
-            let (a, m) = rename_two(alloc, terms, names, under, below, a, m)?;
+            let (a, m) = rename_bound(alloc, terms, names, under, a, m)?;
             terms.make(alloc, View::Lam(a, m))
         }
         View::Pi(a, b) => {
-            let below = under.checked_add(1).ok_or(AllocError)?;
-            let (a, b) = rename_two(alloc, terms, names, under, below, a, b)?;
+            let (a, b) = rename_bound(alloc, terms, names, under, a, b)?;
             terms.make(alloc, View::Pi(a, b))
         }
         View::Const(name, us) => {
@@ -94,27 +89,71 @@ fn rename_variable<T: Terms, N: Names>(
     terms.make(alloc, View::Var(number))
 }
 
-/// Renames the two parts of a node, each under its own number of binders.
+/// Renames an application.
 #[cycle(renaming)]
-fn rename_two<T: Terms, N: Names>(
+fn rename_application<T: Terms, N: Names>(
     alloc: Global,
     terms: &mut T,
     names: &N,
     under: u32,
-    below: u32,
+    f: T::Handle,
     a: T::Handle,
-    b: T::Handle,
+) -> Result<T::Handle, AllocError>
+    requires function { T.holds terms.old f }
+    requires argument { T.holds terms.old a }
+    ensures tree { IfOk result (λ r. T.means terms.new r ≡ renamed_at (N.name names.now) under (App (T.means terms.old f) (T.means terms.old a))) }
+    ensures held { IfOk result (λ r. T.holds terms.new r) }
+    ensures kept { Keeps (T.holds terms.old) (T.means terms.old) (T.holds terms.new) (T.means terms.new) }
+{
+    let f = rename_spine(alloc, terms, names, under, f)?;
+    let a = rename_at(alloc, terms, names, under, a)?;
+    terms.make(alloc, View::App(f, a))
+}
+
+/// Renames a head and what it is applied to, in a loop.
+#[cycle(renaming)]
+fn rename_spine<T: Terms, N: Names>(
+    alloc: Global,
+    terms: &mut T,
+    names: &N,
+    under: u32,
+    h: T::Handle,
+) -> Result<T::Handle, AllocError>
+    requires { T.holds terms.old h }
+    ensures tree { IfOk result (λ r. T.means terms.new r ≡ renamed_at (N.name names.now) under (T.means terms.old h)) }
+    ensures held { IfOk result (λ r. T.holds terms.new r) }
+    ensures kept { Keeps (T.holds terms.old) (T.means terms.old) (T.holds terms.new) (T.means terms.new) }
+{
+    let mut spine = spine_of(alloc, terms, h)?;
+    let mut made = rename_at(alloc, terms, names, under, spine.head)?;
+    while let Some(u) = spine.args.pop() {
+        let renamed = rename_at(alloc, terms, names, under, u)?;
+        made = terms.make(alloc, View::App(made, renamed))?;
+    }
+    Ok(made)
+}
+
+/// Renames the two parts of an abstraction or a product, of which the second one stands under its binder.
+#[cycle(renaming)]
+fn rename_bound<T: Terms, N: Names>(
+    alloc: Global,
+    terms: &mut T,
+    names: &N,
+    under: u32,
+    a: T::Handle,
+    m: T::Handle,
 ) -> Result<(T::Handle, T::Handle), AllocError>
-    requires first { T.holds terms.old a }
-    requires second { T.holds terms.old b }
-    ensures first { IfOk result (λ r. T.means terms.new r.0 ≡ renamed_at (N.name names.now) under (T.means terms.old a)) }
-    ensures second { IfOk result (λ r. T.means terms.new r.1 ≡ renamed_at (N.name names.now) below (T.means terms.old b)) }
+    requires bound { T.holds terms.old a }
+    requires body { T.holds terms.old m }
+    ensures bound { IfOk result (λ r. T.means terms.new r.0 ≡ renamed_at (N.name names.now) under (T.means terms.old a)) }
+    ensures body { IfOk result (λ r. T.means terms.new r.1 ≡ renamed_at (N.name names.now) (under + 1) (T.means terms.old m)) }
     ensures held { IfOk result (λ r. T.holds terms.new r.0 × T.holds terms.new r.1) }
     ensures kept { Keeps (T.holds terms.old) (T.means terms.old) (T.holds terms.new) (T.means terms.new) }
 {
+    let below = under.checked_add(1).ok_or(AllocError)?;
     let a = rename_at(alloc, terms, names, under, a)?;
-    let b = rename_at(alloc, terms, names, below, b)?;
-    Ok((a, b))
+    let m = rename_at(alloc, terms, names, below, m)?;
+    Ok((a, m))
 }
 
 /// Renames each term of a list.
@@ -137,167 +176,4 @@ fn rename_each<T: Terms, N: Names>(
         made.push(rename_at(alloc, terms, names, under, *u)?)?;
     }
     Ok(made)
-}
-
-/// A term in which each occurrence of a metavariable, also in arguments of another one, is replaced by a value with its arguments put in.
-/// Older handles keep their meaning.
-///
-/// Fails for want of memory alone. An index above 4,294,967,295, or as many binders above a node, count as want of memory.
-#[cycle(replacing)]
-pub fn replace<T: Terms>(
-    alloc: Global,
-    terms: &mut T,
-    m: u32,
-    value: T::Handle,
-    h: T::Handle,
-) -> Result<T::Handle, AllocError>
-    requires value { T.holds terms.old value }
-    requires term { T.holds terms.old h }
-    ensures tree { IfOk result (λ r. T.means terms.new r ≡ pruning.replace m (T.means terms.old value) (T.means terms.old h)) }
-    ensures held { IfOk result (λ r. T.holds terms.new r) }
-    ensures kept { Keeps (T.holds terms.old) (T.means terms.old) (T.holds terms.new) (T.means terms.new) }
-{
-    match terms.node(h) {
-        View::Star | View::Square | View::Var(_) => Ok(h),
-        View::App(f, a) => {
-            let (f, a) = replace_two(alloc, terms, m, value, f, a)?;
-            terms.make(alloc, View::App(f, a))
-        }
-        View::Lam(a, b) => {
-            let (a, b) = replace_two(alloc, terms, m, value, a, b)?;
-            terms.make(alloc, View::Lam(a, b))
-        }
-        View::Pi(a, b) => {
-            let (a, b) = replace_two(alloc, terms, m, value, a, b)?;
-            terms.make(alloc, View::Pi(a, b))
-        }
-        View::Const(name, us) => {
-            let name = name.copy(alloc)?;
-            let us = Vec::from_slice(alloc, us)?;
-            let us = replace_each(alloc, terms, m, value, &us)?;
-            terms.make(alloc, View::Const(&name, &us))
-        }
-        View::Meta(k, us) => {
-            let us = Vec::from_slice(alloc, us)?;
-            replace_meta(alloc, terms, m, value, k, &us)
-        }
-    }
-}
-
-/// Replaces a metavariable in another one, or the other one too, where it is the same.
-#[cycle(replacing)]
-fn replace_meta<T: Terms>(
-    alloc: Global,
-    terms: &mut T,
-    m: u32,
-    value: T::Handle,
-    k: u32,
-    us: &[T::Handle],
-) -> Result<T::Handle, AllocError>
-    requires value { T.holds terms.old value }
-    requires list { All (T.holds terms.old) us.now }
-    ensures tree { IfOk result (λ r. T.means terms.new r ≡ pruning.replace m (T.means terms.old value) (Meta k (terms_of (map (T.means terms.old) us.now)))) }
-    ensures held { IfOk result (λ r. T.holds terms.new r) }
-    ensures kept { Keeps (T.holds terms.old) (T.means terms.old) (T.holds terms.new) (T.means terms.new) }
-{
-    let us = replace_each(alloc, terms, m, value, us)?;
-    if k == m {
-        return subst_all(alloc, terms, value, &us);
-    }
-    terms.make(alloc, View::Meta(k, &us))
-}
-
-/// Replaces a metavariable in the two parts of a node.
-#[cycle(replacing)]
-fn replace_two<T: Terms>(
-    alloc: Global,
-    terms: &mut T,
-    m: u32,
-    value: T::Handle,
-    a: T::Handle,
-    b: T::Handle,
-) -> Result<(T::Handle, T::Handle), AllocError>
-    requires value { T.holds terms.old value }
-    requires first { T.holds terms.old a }
-    requires second { T.holds terms.old b }
-    ensures first { IfOk result (λ r. T.means terms.new r.0 ≡ pruning.replace m (T.means terms.old value) (T.means terms.old a)) }
-    ensures second { IfOk result (λ r. T.means terms.new r.1 ≡ pruning.replace m (T.means terms.old value) (T.means terms.old b)) }
-    ensures held { IfOk result (λ r. T.holds terms.new r.0 × T.holds terms.new r.1) }
-    ensures kept { Keeps (T.holds terms.old) (T.means terms.old) (T.holds terms.new) (T.means terms.new) }
-{
-    let a = replace(alloc, terms, m, value, a)?;
-    let b = replace(alloc, terms, m, value, b)?;
-    Ok((a, b))
-}
-
-/// Replaces a metavariable in each term of a list.
-#[cycle(replacing)]
-#[tactic(auto, using(ld_terms::proofs::Arguments::part_at, ld_terms::proofs::Turns::keeps_all))]
-fn replace_each<T: Terms>(
-    alloc: Global,
-    terms: &mut T,
-    m: u32,
-    value: T::Handle,
-    us: &[T::Handle],
-) -> Result<Vec<T::Handle>, AllocError>
-    requires value { T.holds terms.old value }
-    requires list { All (T.holds terms.old) us.now }
-    ensures tree { IfOk result (λ rs. terms_of (map (T.means terms.new) rs.items) ≡ pruning.replace_all m (T.means terms.old value) (terms_of (map (T.means terms.old) us.now))) }
-    ensures held { IfOk result (λ rs. All (T.holds terms.new) rs.items) }
-    ensures kept { Keeps (T.holds terms.old) (T.means terms.old) (T.holds terms.new) (T.means terms.new) }
-{
-    let mut made = Vec::new(alloc);
-    for u in us {
-        made.push(replace(alloc, terms, m, value, *u)?)?;
-    }
-    Ok(made)
-}
-
-/// Spends a unit for each occurrence of a metavariable in a term. It is false exactly where there are fewer, and none is left then.
-#[cycle(spending)]
-pub fn spend_occurrences<T: Terms>(terms: &T, fuel: &mut Fuel, m: u32, h: T::Handle) -> bool
-    requires { T.holds terms.now h }
-    ensures { IsSpent (pruning.occurrences m (T.means terms.now h)) fuel.old fuel.new result }
-{
-    match terms.node(h) {
-        View::Star | View::Square | View::Var(_) => true,
-        View::App(f, a) => spend_in_two(terms, fuel, m, f, a),
-        View::Lam(a, b) => spend_in_two(terms, fuel, m, a, b),
-        View::Pi(a, b) => spend_in_two(terms, fuel, m, a, b),
-        View::Const(_, us) => spend_in_all(terms, fuel, m, us),
-        View::Meta(k, us) => {
-            if k == m && !fuel.spend() {
-                return false;
-            }
-            spend_in_all(terms, fuel, m, us)
-        }
-    }
-}
-
-/// Spends a unit for each occurrence in two terms.
-#[cycle(spending)]
-fn spend_in_two<T: Terms>(terms: &T, fuel: &mut Fuel, m: u32, a: T::Handle, b: T::Handle) -> bool
-    requires first { T.holds terms.now a }
-    requires second { T.holds terms.now b }
-    ensures { IsSpent (pruning.occurrences m (T.means terms.now a) + pruning.occurrences m (T.means terms.now b)) fuel.old fuel.new result }
-{
-    if !spend_occurrences(terms, fuel, m, a) {
-        return false;
-    }
-    spend_occurrences(terms, fuel, m, b)
-}
-
-/// Spends a unit for each occurrence in several terms.
-#[cycle(spending)]
-#[tactic(auto, using(ld_terms::proofs::Arguments::part_at))]
-fn spend_in_all<T: Terms>(terms: &T, fuel: &mut Fuel, m: u32, us: &[T::Handle]) -> bool
-    requires { All (T.holds terms.now) us.now }
-    ensures { IsSpent (pruning.occurrences_in m (terms_of (map (T.means terms.now) us.now))) fuel.old fuel.new result }
-{
-    for u in us {
-        if !spend_occurrences(terms, fuel, m, *u) {
-            return false;
-        }
-    }
-    true
 }

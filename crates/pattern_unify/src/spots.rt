@@ -25,7 +25,9 @@ pub enum Spot {
     Inside(u32, u32, Vec<bool>),
 }
 
-/// The first variable of a term under so many binders that is neither bound by them nor allowed.
+/// The first variable of a term under so many binders that is neither bound by them nor allowed. Takes no memory.
+///
+/// There is no recursion over the arguments of an application: a term of many arguments needs no deep stack.
 #[cycle(walking)]
 pub fn bad_variable<T: Terms, A: Allows>(
     terms: &T,
@@ -39,7 +41,7 @@ pub fn bad_variable<T: Terms, A: Allows>(
     match terms.node(h) {
         View::Star | View::Square => Ok(None),
         View::Var(i) => Ok(bad_index(allowed, under, i)),
-        View::App(f, a) => bad_in_two(terms, allowed, under, under, f, a),
+        View::App(f, a) => bad_in_application(terms, allowed, under, f, a),
         View::Lam(a, m) => {
             let below = under.checked_add(1).ok_or(AllocError)?;
             bad_in_two(terms, allowed, under, below, a, m)
@@ -62,6 +64,28 @@ fn bad_index<A: Allows>(allowed: &A, under: u32, i: u32) -> Option<u32>
     } else {
         Some(i - under)
     }
+}
+
+/// The first bad variable of an application. It is walked in a loop, the last argument first.
+#[cycle(walking)]
+fn bad_in_application<T: Terms, A: Allows>(
+    terms: &T,
+    allowed: &A,
+    under: u32,
+    f: T::Handle,
+    a: T::Handle,
+) -> Result<Option<u32>, AllocError>
+    requires function { T.holds terms.now f }
+    requires argument { T.holds terms.now a }
+    ensures { IfOk result (λ o. o ≡ or_next (walks.bad_variable (A.good allowed.now) under (T.means terms.now f)) (walks.bad_variable (A.good allowed.now) under (T.means terms.now a))) }
+{
+    let mut head = f;
+    let mut found = bad_variable(terms, allowed, under, a)?;
+    while let View::App(g, b) = terms.node(head) {
+        found = bad_variable(terms, allowed, under, b)?.or(found);
+        head = g;
+    }
+    Ok(bad_variable(terms, allowed, under, head)?.or(found))
 }
 
 /// The first bad variable of two terms, each under its own number of binders.
@@ -164,7 +188,7 @@ fn spot_of<T: Terms, A: Allows>(
     match terms.node(h) {
         View::Star | View::Square => Ok(Spot::Nowhere),
         View::Var(i) => Ok(spot_at(bad_index(allowed, under, i))),
-        View::App(f, a) => spot_in_two(alloc, terms, metas, allowed, under, under, f, a),
+        View::App(f, a) => spot_in_application(alloc, terms, metas, allowed, under, f, a),
         View::Lam(a, m) => {
             let below = under.checked_add(1).ok_or(AllocError)?;
             spot_in_two(alloc, terms, metas, allowed, under, below, a, m)
@@ -210,6 +234,41 @@ fn spot_inside<T: Terms, A: Allows>(
         Some(i) => Ok(Spot::Inside(i, m, marks_of(alloc, terms, allowed, under, us)?)),
         None => Ok(Spot::Nowhere),
     }
+}
+
+/// The first of two spots, or the second where the first is nowhere.
+fn first_spot(first: Spot, second: Spot) -> Spot
+    ensures { plain_spot result ≡ tree.or_spot (plain_spot first) (plain_spot second) }
+{
+    match first {
+        Spot::Nowhere => second,
+        found => found,
+    }
+}
+
+/// Where the first bad variable of an application stands. It is walked in a loop, the last argument first.
+#[cycle(looking)]
+fn spot_in_application<T: Terms, A: Allows>(
+    alloc: Global,
+    terms: &T,
+    metas: &Metas<T::Handle>,
+    allowed: &A,
+    under: u32,
+    f: T::Handle,
+    a: T::Handle,
+) -> Result<Spot, AllocError>
+    requires function { T.holds terms.now f }
+    requires argument { T.holds terms.now a }
+    ensures { IfOk result (λ s. plain_spot s ≡ tree.or_spot (walks.free_spot (state.plain_metas (T.means terms.now) metas.now) (A.good allowed.now) under (T.means terms.now f)) (walks.free_spot (state.plain_metas (T.means terms.now) metas.now) (A.good allowed.now) under (T.means terms.now a))) }
+{
+    let mut head = f;
+    let mut found = spot_of(alloc, terms, metas, allowed, under, a)?;
+    while let View::App(g, b) = terms.node(head) {
+        found = first_spot(spot_of(alloc, terms, metas, allowed, under, b)?, found);
+        head = g;
+    }
+    let first = spot_of(alloc, terms, metas, allowed, under, head)?;
+    Ok(first_spot(first, found))
 }
 
 /// Where the first bad variable of two terms stands, each under its own number of binders.

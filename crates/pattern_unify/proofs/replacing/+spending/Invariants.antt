@@ -1,0 +1,32 @@
+use Rattle.std.proofs.Common.{◌≤◌, ◌+◌, ◌*◌, map, take, true}
+use Rattle.ld_trees.specs.Term.{nodes, nodes_all}
+use Rattle.ld_terms.specs.Views.{terms_of}
+use Rattle.unification.specs.Pruning.{occurrences_in}
+use Rattle.pattern_unify.specs.Walks.{IsSpent}
+use Rattle.pattern_unify.proofs.UnitsSpent.{IsLeft}
+use Rattle.pattern_unify.proofs.replacing.+spending.Given as goal
+
+abbrev pub decreases-spend_occurrences : goal.decreases-spend_occurrences
+decreases-spend_occurrences g l = 3 * nodes (g.T.Terms.means l.terms.now l.h)
+
+abbrev pub decreases-spend_in_application : goal.decreases-spend_in_application
+decreases-spend_in_application g l = 3 * (nodes (g.T.Terms.means l.terms.now l.f) + nodes (g.T.Terms.means l.terms.now l.a)) + 1
+
+abbrev pub invariant-spend_in_application-loop-g : goal.invariant-spend_in_application-loop-g
+invariant-spend_in_application-loop-g g l =
+    let means = g.T.Terms.means l.terms in
+    g.T.Terms.holds l.terms l.head
+    × (nodes (means l.head) ≤ nodes (means l.fn.f))
+    × IsLeft l.m (means l.fn.f) (means l.fn.a) l.fn.fuel l.fuel (means l.head)
+
+abbrev pub decreases-spend_in_application-loop-g : goal.decreases-spend_in_application-loop-g
+decreases-spend_in_application-loop-g g l = nodes (g.T.Terms.means l.terms l.head)
+
+abbrev pub decreases-spend_in_two : goal.decreases-spend_in_two
+decreases-spend_in_two g l = 3 * (nodes (g.T.Terms.means l.terms.now l.a) + nodes (g.T.Terms.means l.terms.now l.b)) + 1
+
+abbrev pub decreases-spend_in_all : goal.decreases-spend_in_all
+decreases-spend_in_all g l = 3 * nodes_all (terms_of (map (g.T.Terms.means l.terms.now) l.us.now)) + 1
+
+abbrev pub invariant-spend_in_all-loop-u : goal.invariant-spend_in_all-loop-u
+invariant-spend_in_all-loop-u g l = IsSpent (occurrences_in l.m (terms_of (map (g.T.Terms.means l.terms) (take l.u-index l.us)))) l.fn.fuel l.fuel true
