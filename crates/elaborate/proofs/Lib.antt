@@ -1,0 +1,11 @@
+pub mod Follow
+pub mod Meanings
+pub mod Equations
+pub mod HolesAndVariables
+pub mod Forms
+pub mod AroundParts
+pub mod Parts
+pub mod Arms
+pub mod Turns
+pub mod Units
+pub mod Depths
