@@ -17,7 +17,7 @@ use Rattle.reply_text.specs.declared.members.Members.{Members}
 use Rattle.reply_text.specs.Members.{number, string, member_text, behind_comma, members_text, body_text, object_text}
 use Rattle.reply_text.specs.Shown.{size, printed_json, term_json, level_names}
 use Rattle.reply_text.specs.Context.{between_commas, array_text, entry_json, first_entries, shown_names, context_json}
-use Rattle.reply_text.specs.Refusals.{error, place, item_number, level_term, syntax, name_taken, no_item, unknown_name, wrong_count, unsolved, plain, of_goal, no_goal, scoping, kernel, out_of_fuel}
+use Rattle.reply_text.specs.Refusals.{error, place, item_number, level_term, syntax, name_taken, no_item, unknown_name, wrong_count, unsolved, no_expected, plain, of_goal, out_of_scope, no_goal, scoping, kernel, out_of_fuel}
 
 -- ---- members
 
@@ -138,6 +138,10 @@ plain_reply name other = reply_of (plain name None) (error_plain name, tt) tt ot
 pub goal_reply : (name : List ℕ) (m : ℕ) → differ (body_text (of_goal name m)).first memory_front ≡ true → IsReply (body_text (of_goal name m))
 goal_reply name m other = reply_of (of_goal name m) (error_plain name, (number_plain (codes "goal") m refl, tt)) tt other
 
+pub out_of_scope_reply : (m level : ℕ) → IsReply (body_text (out_of_scope m level))
+unfolding escape_byte
+out_of_scope_reply m level = reply_of (out_of_scope m level) (error_plain (codes "scope"), (number_plain (codes "goal") m refl, (number_plain (codes "level") level refl, tt))) tt refl
+
 pub no_goal_reply : (index count : ℕ) → IsReply (body_text (no_goal index count))
 no_goal_reply index count = reply_of (no_goal index count) (number_plain (codes "count") count refl, (error_plain (codes "noGoal"), (number_plain (codes "index") index refl, tt))) tt refl
 
@@ -149,14 +153,27 @@ pub no_item_reply : (name : List ℕ) → IsReply (body_text (no_item name))
 unfolding escape_byte
 no_item_reply name = reply_of (no_item name) (error_plain (codes "unknownName"), name_plain name) tt refl
 
-pub scoping_reply : (item : Option ℕ) (fault : ScopeFault) → IsReply (body_text (scoping item fault))
-unfolding scoping
-scoping_reply item (scope.UnknownName at name) =
+-- names that could not be resolved, and holes
+pub unknown_name_reply : (item : Option ℕ) (at : ℕ) (name : List ℕ) → IsReply (body_text (unknown_name item at name))
+unknown_name_reply item at name =
     reply_of (unknown_name item at name) (at_plain at, (error_plain (codes "unknownName"), plain-append (item_number item) _ (item_plain item) (name_plain name))) tt refl
-scoping_reply item (scope.WrongCount at name given wanted) =
+
+pub wrong_count_reply : (item : Option ℕ) (at : ℕ) (name : List ℕ) (given wanted : ℕ) → IsReply (body_text (wrong_count item at name given wanted))
+wrong_count_reply item at name given wanted =
     reply_of (wrong_count item at name given wanted)
     (at_plain at, (error_plain (codes "wrongCount"), (number_plain (codes "given") given refl, plain-append (item_number item) _ (item_plain item) (name_plain name)))) (number_plain (codes "wanted") wanted refl, tt) refl
-scoping_reply item (scope.Unsolved at) = reply_of (unsolved item at) (at_plain at, (error_plain (codes "unsolved"), item_plain item)) tt refl
+
+pub unsolved_reply : (item : Option ℕ) (at : ℕ) → IsReply (body_text (unsolved item at))
+unsolved_reply item at = reply_of (unsolved item at) (at_plain at, (error_plain (codes "unsolved"), item_plain item)) tt refl
+
+pub no_expected_reply : (at : ℕ) → IsReply (body_text (no_expected at))
+no_expected_reply at = reply_of (no_expected at) (at_plain at, (error_plain (codes "noExpected"), tt)) tt refl
+
+pub scoping_reply : (item : Option ℕ) (fault : ScopeFault) → IsReply (body_text (scoping item fault))
+unfolding scoping
+scoping_reply item (scope.UnknownName at name) = unknown_name_reply item at name
+scoping_reply item (scope.WrongCount at name given wanted) = wrong_count_reply item at name given wanted
+scoping_reply item (scope.Unsolved at) = unsolved_reply item at
 scoping_reply item scope.Memory = record { other = refl; first = refl; second = refl; third = refl }
 
 pub kernel_reply : (item : Option ℕ) (r : Refusal) → IsReply (body_text (kernel item r))

@@ -50,9 +50,17 @@ wrong_count item at name given wanted = record { before = place at ∷ error (co
 abbrev pub unsolved : Option ℕ → ℕ → Members
 unsolved item at = record { before = place at ∷ error (codes "unsolved") ∷ item_number item; after = [] }
 
+-- a hole where no type is wanted
+abbrev pub no_expected : ℕ → Members
+no_expected at = record { before = place at ∷ error (codes "noExpected") ∷ []; after = [] }
+
 -- a refusal that names a metavariable
 abbrev pub of_goal : List ℕ → ℕ → Members
 of_goal name m = record { before = error name ∷ number (codes "goal") m ∷ []; after = [] }
+
+-- a metavariable that would be solved by a term with a variable of this level, which isn't among its arguments
+abbrev pub out_of_scope : ℕ → ℕ → Members
+out_of_scope m level = record { before = error (codes "scope") ∷ number (codes "goal") m ∷ number (codes "level") level ∷ []; after = [] }
 
 -- an index that isn't below the number of active goals
 abbrev pub no_goal : ℕ → ℕ → Members

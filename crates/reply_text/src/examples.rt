@@ -20,6 +20,9 @@ fn worked_replies()
     ensures unknown_item { body_text (refusals.scoping (Some 2) (UnknownName 3 (codes "x"))) ≡ reply (codes "{\"at\":3,\"error\":\"unknownName\",\"item\":2,\"name\":\"x\",\"seq\":") (codes "}") }
     ensures count { body_text (refusals.scoping None (WrongCount 0 (codes "le") 1 2)) ≡ reply (codes "{\"at\":0,\"error\":\"wrongCount\",\"given\":1,\"name\":\"le\",\"seq\":") (codes ",\"wanted\":2}") }
     ensures count_item { body_text (refusals.scoping (Some 7) (WrongCount 0 (codes "le") 1 2)) ≡ reply (codes "{\"at\":0,\"error\":\"wrongCount\",\"given\":1,\"item\":7,\"name\":\"le\",\"seq\":") (codes ",\"wanted\":2}") }
+    ensures no_expected { body_text (refusals.no_expected 6) ≡ reply (codes "{\"at\":6,\"error\":\"noExpected\",\"seq\":") (codes "}") }
+    ensures of_goal { body_text (refusals.of_goal (codes "notPattern") 4) ≡ reply (codes "{\"error\":\"notPattern\",\"goal\":4,\"seq\":") (codes "}") }
+    ensures out_of_scope { body_text (refusals.out_of_scope 3 1) ≡ reply (codes "{\"error\":\"scope\",\"goal\":3,\"level\":1,\"seq\":") (codes "}") }
     ensures taken { body_text (refusals.name_taken None (codes "N")) ≡ reply (codes "{\"error\":\"nameTaken\",\"name\":\"N\",\"seq\":") (codes "}") }
     ensures taken_item { body_text (refusals.name_taken (Some 1) (codes "N")) ≡ reply (codes "{\"error\":\"nameTaken\",\"item\":1,\"name\":\"N\",\"seq\":") (codes "}") }
     ensures no_item { body_text (refusals.no_item (codes "a\"\t\u{1f}")) ≡ reply (codes "{\"error\":\"unknownName\",\"name\":\"a\\\"\\t\\u001f\",\"seq\":") (codes "}") }

@@ -12,8 +12,9 @@ pub use context::{array_text, context_json, shown_names};
 pub use laws::{level_names_fit, shown_names_fit};
 pub use members::{Member, Members};
 pub use refusals::{
-    fault_members, fuel_members, goal_members, no_goal_members, no_item_members, plain_members,
-    scope_members, syntax_members, taken_members,
+    fault_members, fuel_members, goal_members, no_expected_members, no_goal_members,
+    no_item_members, out_of_scope_members, plain_members, scope_members, syntax_members,
+    taken_members, unknown_name_members, unsolved_members, wrong_count_members,
 };
 pub use shown::{level_names, term_json};
 

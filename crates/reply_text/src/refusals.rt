@@ -87,6 +87,19 @@ pub fn goal_members(alloc: Global, name: &str, goal: u32) -> Result<Members, All
     Ok(Members::before(alloc, vec![in alloc; error(alloc, name)?, goal]?))
 }
 
+/// Metavariable `goal` would be solved by a term with a variable of this level, which isn't among its arguments. Fails for want of memory
+/// alone.
+pub fn out_of_scope_members(alloc: Global, goal: u32, level: u32) -> Result<Members, AllocError>
+    ensures { IfOk result (λ m. m ≡ spec.out_of_scope goal level) }
+{
+    let before = vec![in alloc;
+        error(alloc, "scope")?,
+        Member::number(alloc, "goal", u64::from(goal))?,
+        Member::number(alloc, "level", u64::from(level))?,
+    ]?;
+    Ok(Members::before(alloc, before))
+}
+
 /// An index that isn't below the number of active goals, which is `count`. Fails for want of memory alone.
 pub fn no_goal_members(alloc: Global, index: u64, count: u64) -> Result<Members, AllocError>
     ensures { IfOk result (λ m. m ≡ spec.no_goal index count) }
@@ -99,9 +112,10 @@ pub fn no_goal_members(alloc: Global, index: u64, count: u64) -> Result<Members,
     Ok(Members::before(alloc, before))
 }
 
-// ---- names that could not be resolved
+// ---- names that could not be resolved, and holes
 
-fn unknown_name(
+/// A name that no variable and no item has, in the item of this number if it is one. Fails for want of memory alone.
+pub fn unknown_name_members(
     alloc: Global,
     item: Option<u64>,
     at: u64,
@@ -118,7 +132,9 @@ fn unknown_name(
     Ok(Members::before(alloc, before))
 }
 
-fn wrong_count(
+/// A constant with another number of arguments than it has parameters, in the item of this number if it is one. Fails for want of memory
+/// alone.
+pub fn wrong_count_members(
     alloc: Global,
     item: Option<u64>,
     at: u64,
@@ -142,11 +158,23 @@ fn wrong_count(
     })
 }
 
-fn unsolved(alloc: Global, item: Option<u64>, at: u64) -> Result<Members, AllocError>
+/// A hole, in the item of this number if it is one. Fails for want of memory alone.
+pub fn unsolved_members(alloc: Global, item: Option<u64>, at: u64) -> Result<Members, AllocError>
     ensures { IfOk result (λ m. m ≡ spec.unsolved item at) }
 {
     let mut before = vec![in alloc; Member::number(alloc, "at", at)?, error(alloc, "unsolved")?]?;
     push_item(alloc, &mut before, item)?;
+    Ok(Members::before(alloc, before))
+}
+
+/// A hole where no type is wanted. Fails for want of memory alone.
+pub fn no_expected_members(alloc: Global, at: u64) -> Result<Members, AllocError>
+    ensures { IfOk result (λ m. m ≡ spec.no_expected at) }
+{
+    let before = vec![in alloc;
+        Member::number(alloc, "at", at)?,
+        error(alloc, "noExpected")?,
+    ]?;
     Ok(Members::before(alloc, before))
 }
 
@@ -162,14 +190,14 @@ pub fn scope_members(
     ensures some { IfOk result (λ m. fault.now ≢ scope.Memory) }
 {
     match fault {
-        ScopeFault::UnknownName { at, name } => unknown_name(alloc, item, *at, name),
+        ScopeFault::UnknownName { at, name } => unknown_name_members(alloc, item, *at, name),
         ScopeFault::WrongCount {
             at,
             name,
             given,
             wanted,
-        } => wrong_count(alloc, item, *at, name, *given, *wanted),
-        ScopeFault::Unsolved { at } => unsolved(alloc, item, *at),
+        } => wrong_count_members(alloc, item, *at, name, *given, *wanted),
+        ScopeFault::Unsolved { at } => unsolved_members(alloc, item, *at),
         ScopeFault::Memory => Err(AllocError),
     }
 }

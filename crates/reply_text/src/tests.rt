@@ -1,6 +1,9 @@
-//! Each refusal of a text, once.
+//! Each refusal of a text and of a metavariable, once.
 
-use crate::{Members, fuel_members, no_item_members, scope_members, syntax_members, taken_members};
+use crate::{
+    Members, fuel_members, goal_members, no_expected_members, no_item_members,
+    out_of_scope_members, scope_members, syntax_members, taken_members, unsolved_members,
+};
 use ld_terms::Name;
 use std::alloc::{AllocError, Global};
 use std::test::Fail;
@@ -45,5 +48,22 @@ fn refusals_of_texts(rt: HostRuntime) -> Result<(), Fail> {
         first.as_slice()
             == b"{\"error\":\"unknownName\",\"name\":\"\\u001f\\\"\xff\",\"seq\":".as_slice()
     );
+    Ok(())
+}
+
+#[test]
+fn refusals_of_holes(rt: HostRuntime) -> Result<(), Fail> {
+    let alloc = rt.alloc();
+    let (first, second) = around(alloc, &out_of_scope_members(alloc, 1, 0)?)?;
+    assert!(rt;
+        first.as_slice() == b"{\"error\":\"scope\",\"goal\":1,\"level\":0,\"seq\":".as_slice()
+    );
+    assert!(rt; second.as_slice() == b"}".as_slice());
+    let (first, _) = around(alloc, &goal_members(alloc, "notPattern", 1)?)?;
+    assert!(rt; first.as_slice() == b"{\"error\":\"notPattern\",\"goal\":1,\"seq\":".as_slice());
+    let (first, _) = around(alloc, &unsolved_members(alloc, None, 10)?)?;
+    assert!(rt; first.as_slice() == b"{\"at\":10,\"error\":\"unsolved\",\"seq\":".as_slice());
+    let (first, _) = around(alloc, &no_expected_members(alloc, 6)?)?;
+    assert!(rt; first.as_slice() == b"{\"at\":6,\"error\":\"noExpected\",\"seq\":".as_slice());
     Ok(())
 }

@@ -32,6 +32,18 @@ pub returns-clause-count_item : goal.returns-clause-count_item
 unfolding scoping escape_byte digits
 returns-clause-count_item c = refl
 
+pub returns-clause-no_expected : goal.returns-clause-no_expected
+unfolding scoping escape_byte digits
+returns-clause-no_expected c = refl
+
+pub returns-clause-of_goal : goal.returns-clause-of_goal
+unfolding scoping escape_byte digits
+returns-clause-of_goal c = refl
+
+pub returns-clause-out_of_scope : goal.returns-clause-out_of_scope
+unfolding scoping escape_byte digits
+returns-clause-out_of_scope c = refl
+
 pub returns-clause-taken : goal.returns-clause-taken
 unfolding scoping escape_byte digits
 returns-clause-taken c = refl
