@@ -11,6 +11,3 @@ more_open p xs i l =
 pub pushed : (p : ℕ → Bool) (before goals goals' xs : List ℕ) (i : ℕ) → i < length xs → goals ≡ before ++ filter p (take i xs) → goals' ≡ goals ++ filter p (slice_index xs i ∷ []) → goals' ≡ before ++ filter p (take (i + 1) xs)
 pushed p before goals goals' xs i l e f =
     f ∙ ap (λ ys. ys ++ filter p (slice_index xs i ∷ [])) e ∙ append_assoc before (filter p (take i xs)) (filter p (slice_index xs i ∷ [])) ∙ ap (λ ys. before ++ ys) (more_open p xs i l)
-
-pub joined : (p : ℕ → Bool) (xs ys next next' : List ℕ) → next ≡ filter p xs → next' ≡ next ++ filter p ys → next' ≡ filter p (xs ++ ys)
-joined p xs ys next next' e f = f ∙ ap (λ zs. zs ++ filter p ys) e ∙ sym (filter-append p xs ys)

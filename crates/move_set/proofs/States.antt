@@ -1,204 +1,123 @@
 -- A move in a legal state makes a legal state, and changes little of it.
-use Rattle.std.proofs.Common.{◌≡◌, ◌≢◌, ℕ, zero, suc, ◌<◌, Bool, true, false, List, [], ◌∷◌, ◌++◌, length, filter, All, if◌then◌else◌, Option, Some, None, get_or, refl, sym, ap, ◌∙◌, arith, subst, nat_eq, ◌||◌}
-use Rattle.std.specs.Prelude.{slice_get, is_none}
-use Rattle.std.proofs.lemmas.Bool.{false≢true, eqb-true}
-use Rattle.std.proofs.lemmas.Bool.Decides.{nat_tests}
-use Rattle.std.proofs.lemmas.Option.{slice_get_within, get_or_from_slice_get, slice_get_past}
-use Rattle.std.proofs.lemmas.List.Elements.{filter_passes}
-use Rattle.ld_trees.specs.Term.{Term}
-use Rattle.ld_terms.specs.declared.globals.Local.{Local}
+use Rattle.std.proofs.Common.{◌≡◌, ℕ, ◌<◌, ◌≤◌, Bool, true, List, [], ◌∷◌, length, All, Option, Some, None, option_map, get_or, Ok, Err, refl, sym, ap, ap₂, ◌∙◌, arith, subst, nat_eq, inl, inr}
+use Rattle.std.specs.Prelude.{slice_get}
+use Rattle.std.proofs.lemmas.Bool.{eq-eqb}
+use Rattle.std.proofs.lemmas.List.{length-map}
+use Rattle.std.proofs.lemmas.Option.{slice_get_within, get_or_from_slice_get, same_Some}
+use Rattle.ld_trees.specs.Term.{Head, Named, Numbered, Term, Srt, Var, App, Lam, Pi, Con, Meta, Terms, none, ◌▹◌}
+use Rattle.ld_rules.specs.Environment.{Env, Item as RulesItem, item_of}
+use Rattle.ld_rules.specs.Scoping.{Known, AllKnown}
+use Rattle.ld_rules.specs.ScopedItems.{EachHead, EachHeadOfAll}
 use Rattle.ld_terms.specs.declared.globals.Item.{Item}
 use Rattle.ld_terms.specs.declared.globals.Decl.{Decl}
 use Rattle.term_syntax.specs.Lex.{Text}
+use Rattle.term_syntax.specs.Reading.{Outcome as Parsed}
 use Rattle.move_text.specs.declared.moves.Move.{Move}
-use Rattle.move_text.specs.declared.moves.Move.TheVariants as move
-use Rattle.meta_context.specs.Plain.{rules_env}
-use Rattle.meta_laws.specs.Cut.{listed}
-use Rattle.meta_laws.specs.Legality.{IsLegalMetas}
-use Rattle.goal_state.specs.State.{State, rules_metas, lacks_value, is_open, HasRoot, AreDistinct, IsLegalState}
-use Rattle.goal_state.specs.Following.{KeepsDecl, Extend, MayFollow}
+use Rattle.move_text.specs.Reading.{read}
+use Rattle.conversion.specs.Globals.{decl_tree}
+use Rattle.meta_trees.specs.MetaContext.{decl}
+use Rattle.meta_trees.specs.Dependencies.{occurs_in, and_value, Depends, direct}
+use Rattle.meta_trees.proofs.Dependencies.{or_left, or_right, depends_more, depends_wider}
+use Rattle.meta_context.specs.Plain.{rules_ctx, rules_env}
+use Rattle.meta_context.specs.Stored.{decl_of}
+use Rattle.meta_context.proofs.Stored.{decl_means}
 use Rattle.meta_context.specs.Declaring.{IsOpen}
-use Rattle.meta_context.specs.Declaring as plain
-use Rattle.move_set.specs.Outcomes.{Gave}
-use Rattle.move_set.specs.Moves.{Moved, step, next_goals, moved}
-use Rattle.move_set.specs.Laws.{MovingIsLegal, MovingKeeps, MovingHasFootprint}
-use Rattle.move_set.proofs.Declarations.{declared_before, declared_length, assigned_other, assigned_here}
-use Rattle.move_set.proofs.Steps.{IsSettled}
-use Rattle.move_set.proofs.GivenMoves.{more, IsIntro, IsExact, intro_gave, exact_gave, IsMoved, moved_gave}
-use Rattle.move_set.proofs.Legal.{context_legal, extended_legal, declared_legal, settled_legal}
+use Rattle.meta_laws.specs.Legality.{IsLegalMetas}
+use Rattle.meta_laws.specs.Unfolding.{unfold_all_metas}
+use Rattle.meta_laws.proofs.Footprint.{footprint_stays}
+use Rattle.goal_state.specs.State.{State, rules_metas, HasRoot, IsLegalState}
+use Rattle.goal_state.specs.Following.{Extend, MayFollow}
+use Rattle.unification.specs.Steps.{Gave, pure, ◌>>◌}
+use Rattle.unification.specs.Refusals.{Plain}
+use Rattle.unification.specs.Laws.{declared_terms, Stays}
+use Rattle.unification.proofs.Gives.{given}
+use Rattle.unification.proofs.Declarations.{plain, declares, extend_length, past_the_end, same_decl}
+use Rattle.unification.specs.Metavariables.{reach}
+use Rattle.elaboration.proofs.Reach.{itself, meta_in, reach_scoped}
+use Rattle.elaboration.proofs.Standing.{InSet, IsClosed}
+use Rattle.elaboration.proofs.Sound.{dependency_in}
+use Rattle.move_set.specs.Moves.{Moved, none_open, step, first_open, next_goals, declared_goal, goal_at, after_move, ended, at_goal, read_at_goal, moved}
+use Rattle.move_set.specs.Laws.{IsNeeded, MovingIsLegal, MovingKeeps, MovingHasFootprint, IndependentGoalsStay}
+use Rattle.move_set.proofs.Advancing.{Advances, Ended, step_gives}
+use Rattle.move_set.proofs.Following.{active, distinct}
+use Rattle.move_set.proofs.Given.{bound}
 
--- ---- declarations stay
+-- ---- a move that went through
 
-keeps_decl : (d : Decl Term) → KeepsDecl d d
-keeps_decl d = record { ctx = refl; ty = refl; value = λ v e. e }
+goal_is : (metas : Plain) (o : Option ℕ) (g : ℕ) (d : Decl Term) → declared_goal metas o ≡ Some (g, d) → (o ≡ Some g) × (slice_get metas g ≡ Some d)
+goal_is metas None g d e = absurd cc
+goal_is metas (Some k) g d e = by (slice_get metas k) refl e where
+  by : (p : Option (Decl Term)) → slice_get metas k ≡ p → option_map {U = ℕ × Decl Term} (λ (d : Decl Term). (k, d)) p ≡ Some (g, d) → (Some k ≡ Some g) × (slice_get metas g ≡ Some d)
+  by None is e = absurd cc
+  by (Some c) is e =
+      let pair : (k, c) ≡ (g, d) = cc in
+      let first : k ≡ g = ap (λ (p : ℕ × Decl Term). p.0) pair in
+      let second : c ≡ d = ap (λ (p : ℕ × Decl Term). p.1) pair in
+      (ap (λ (n : ℕ). Some n) first, ap (slice_get metas) (sym first) ∙ is ∙ ap (λ (c : Decl Term). Some c) second)
 
-extends_same : (ds cs : List (Decl Term)) → ((k : ℕ) → k < length ds → slice_get cs k ≡ slice_get ds k) → Extend ds cs
-extends_same ds cs f m d e = (d, f m (slice_get_within ds m d e) ∙ e, keeps_decl d)
+-- a move that went through, on a goal with its declaration
+pub record IsMoved (s : State) (index : ℕ) (auto : Bool) (s' : State) : Type 0 where
+  pub goal : ℕ
+  pub decl : Decl Term
+  pub made : Moved
+  pub move : Move
+  pub units : ℕ
+  pub left : ℕ
+  pub goal_is : slice_get s.goals index ≡ Some goal
+  pub decl_is : slice_get s.metas goal ≡ Some decl
+  pub gave : step s.items s.metas goal decl move units ≡ Gave made left
+  pub after : after_move s auto made ≡ s'
 
-extend_more : (ds bs cs : List (Decl Term)) → Extend ds bs → Extend bs cs → Extend ds cs
-extend_more ds bs cs f g m d e =
-    let b = f m d e in
-    let c = g m b.0 b.1 in
-    (c.0, c.1, record { ctx = c.2.ctx ∙ b.2.ctx; ty = c.2.ty ∙ b.2.ty; value = λ v h. c.2.value v (b.2.value v h) })
+pub ended_is : (s : State) (auto : Bool) (made : Moved) (n left : ℕ) (s' : State) → ended s auto made n ≡ Gave s' left → (first_open made.metas made.holes ≡ None) × (after_move s auto made ≡ s')
+ended_is s auto made n left s' e = go (first_open made.metas made.holes) refl e
+  where
+    go : (o : Option ℕ) → first_open made.metas made.holes ≡ o → (none_open o >> pure (after_move s auto made)) n ≡ Gave s' left → (first_open made.metas made.holes ≡ None) × (after_move s auto made ≡ s')
+    go None q f = (q, let same : Gave (after_move s auto made) n ≡ Gave s' left = f in cc)
+    go (Some at) q f = absurd cc
 
-extend_settled : (ds after : List (Decl Term)) (g : ℕ) (d : Decl Term) (v : Term) → slice_get ds g ≡ Some d → d.value ≡ None → after ≡ plain.assigned g v ds → Extend ds after
-extend_settled ds after g d v there unset is m c e = subst (λ cs. (x : Decl Term) × (slice_get cs m ≡ Some x) × KeepsDecl c x) (sym is) (by (nat_eq m g) refl) where
-  by : (b : Bool) → nat_eq m g ≡ b → (x : Decl Term) × (slice_get (plain.assigned g v ds) m ≡ Some x) × KeepsDecl c x
-  by true q =
-      let same : m ≡ g = eqb-true m g q in
-      let decl : Some c ≡ Some d = sym e ∙ ap (slice_get ds) same ∙ there in
-      let here : c ≡ d = cc in (
-        plain.with_value v d,
-        ap (slice_get (plain.assigned g v ds)) same ∙ assigned_here g v ds d there,
-        record { ctx = ap (λ (x : Decl Term). x.ctx) (sym here); ty = ap (λ (x : Decl Term). x.ty) (sym here); value = λ w h. absurd (let n : None ≡ Some w = sym unset ∙ ap (λ (x : Decl Term). x.value) (sym here) ∙ h in cc) },
-      )
-  by false q =
-      let other : m ≢ g = λ s. grind (arith, nat_tests, q, s) in
-      (c, assigned_other g v ds m other ∙ e, keeps_decl c)
+pub moved_gave : (s s' : State) (index : ℕ) (text : Text) (units left : ℕ) (auto : Bool) → moved s index text units auto ≡ Gave s' left → IsMoved s index auto s'
+unfolding moved
+moved_gave s s' index text units left auto e = parsed (read text) e where
+  at : (m : Move) (o : Option (ℕ × Decl Term)) → goal_at s index ≡ o → at_goal s index auto m o units ≡ Gave s' left → IsMoved s index auto s'
+  at m None is e = absurd cc
+  at m (Some p) is e =
+      let there = goal_is s.metas (slice_get s.goals index) p.0 p.1 is in
+      let b = bound (step s.items s.metas p.0 p.1 m units) (ended s auto) s' left e in
+      record { goal = p.0; decl = p.1; made = b.0; move = m; units = units; left = b.1; goal_is = there.0; decl_is = there.1; gave = b.2; after = (ended_is s auto b.0 b.1 left s' b.3).1 }
 
-root_kept : (ds cs : List (Decl Term)) → HasRoot ds → Extend ds cs → HasRoot cs
+  parsed : (o : Parsed Move) → read_at_goal s index auto o units ≡ Gave s' left → IsMoved s index auto s'
+  parsed (Ok p) e = at p.0 (goal_at s index) refl e
+  parsed (Err i) e = absurd cc
+
+-- ---- legality
+
+root_kept : (ds cs : Plain) → HasRoot ds → Extend ds cs → HasRoot cs
 root_kept [] cs h f = absurd h
 root_kept (d ∷ ds) [] h f = let x = f 0 d refl in absurd (let n : None ≡ Some x.0 = x.1 in cc)
 root_kept (d ∷ ds) (c ∷ cs) h f = let x = f 0 d refl in let same : c ≡ x.0 = (let n : Some c ≡ Some x.0 = x.1 in cc) in ap (λ (y : Decl Term). y.ctx) same ∙ x.2.ctx ∙ h
 
--- ---- the goals
-
-listed_by : (p : ℕ → Bool) (k x : ℕ) (xs : List ℕ) (b c : Bool) → p x ≡ b → nat_eq x k ≡ c → listed k (x ∷ xs) ≡ false → (listed k xs ≡ false → listed k (filter p xs) ≡ false) → listed k (filter p (x ∷ xs)) ≡ false
-listed_by p k x xs b true q r e f = absurd (false≢true (sym e ∙ ap (λ c. c || listed k xs) r))
-listed_by p k x xs true false q r e f = let rest : listed k xs ≡ false = sym (ap (λ c. c || listed k xs) r) ∙ e in rw (q, r) (f rest)
-listed_by p k x xs false false q r e f = let rest : listed k xs ≡ false = sym (ap (λ c. c || listed k xs) r) ∙ e in rw q (f rest)
-
-listed_filtered : (p : ℕ → Bool) (k : ℕ) (xs : List ℕ) → listed k xs ≡ false → listed k (filter p xs) ≡ false
-listed_filtered p k [] e = refl
-listed_filtered p k (x ∷ xs) e = listed_by p k x xs (p x) (nat_eq x k) refl refl e (listed_filtered p k xs)
-
-distinct_by : (p : ℕ → Bool) (x : ℕ) (xs : List ℕ) (b : Bool) → p x ≡ b → listed x (filter p xs) ≡ false → AreDistinct (filter p xs) → AreDistinct (filter p (x ∷ xs))
-distinct_by p x xs true q l h = rw q (l, h)
-distinct_by p x xs false q l h = rw q h
-
-distinct_filtered : (p : ℕ → Bool) (xs : List ℕ) → AreDistinct xs → AreDistinct (filter p xs)
-distinct_filtered p [] h = tt
-distinct_filtered p (x ∷ xs) h = distinct_by p x xs (p x) refl (listed_filtered p x xs h.0) (distinct_filtered p xs h.1)
-
-open_within : (ds : List (Decl Term)) (m : ℕ) → IsOpen ds m → m < length ds
-open_within ds m h = slice_get_within ds m h.0 h.1
-
-unset_by : (o : Option Term) → is_none o ≡ true → o ≡ None
-unset_by None h = refl
-unset_by (Some v) h = absurd (false≢true h)
-
-open_by : (ds : List (Decl Term)) (m : ℕ) (o : Option (Decl Term)) → slice_get ds m ≡ o → lacks_value o ≡ true → IsOpen ds m
-open_by ds m None e h = absurd (false≢true h)
-open_by ds m (Some d) e h = (d, e, unset_by d.value h)
-
--- the test of open goals finds them
-pub is_open_tells : (ds : List (Decl Term)) (m : ℕ) → is_open ds m ≡ true → IsOpen ds m
-is_open_tells ds m h = open_by ds m (slice_get ds m) refl h
-
-above_by : (ds : List (Decl Term)) (m : ℕ) (ms : List ℕ) (b : Bool) → nat_eq m (length ds) ≡ b → IsOpen ds m → listed (length ds) ms ≡ false → (nat_eq m (length ds) || listed (length ds) ms) ≡ false
-above_by ds m ms true q h f = let low : m < length ds = open_within ds m h in let same = eqb-true m (length ds) q in absurd (omega arith)
-above_by ds m ms false q h f = ap (λ b. b || listed (length ds) ms) q ∙ f
-
-above : (ds : List (Decl Term)) (goals : List ℕ) → All (IsOpen ds) goals → listed (length ds) goals ≡ false
-above ds [] a = refl
-above ds (m ∷ ms) a = above_by ds m ms (nat_eq m (length ds)) refl (a 0 m (omega arith)) (above ds ms (λ k e l. a (suc k) e (omega arith)))
-
--- the goals that may follow, where the new ones are none or the next number
-data AreNext (ds : List (Decl Term)) : List ℕ → Type 0 where
-  no_goal : AreNext ds []
-  one_goal : AreNext ds (length ds ∷ [])
-
-distinct_next : (ds : List (Decl Term)) (goals fresh : List ℕ) (auto : Bool) → All (IsOpen ds) goals → AreDistinct goals → AreNext ds fresh → AreDistinct (fresh ++ (if auto then goals else []))
-distinct_next ds goals fresh true a once no_goal = once
-distinct_next ds goals fresh false a once no_goal = tt
-distinct_next ds goals fresh true a once one_goal = (above ds goals a, once)
-distinct_next ds goals fresh false a once one_goal = (refl, tt)
-
-active_next : (ds : List (Decl Term)) (goals fresh : List ℕ) (auto : Bool) → All (IsOpen ds) (next_goals ds fresh goals auto)
-active_next ds goals fresh auto k e l = is_open_tells ds _ (filter_passes (is_open ds) (fresh ++ (if auto then goals else [])) k e l)
-
--- ---- one move
-
-record Advances (s : State) (g : ℕ) (r : Moved) : Type 0 where
-  legal : IsLegalMetas (rules_env s.items) (rules_metas r.metas)
-  extend : Extend s.metas r.metas
-  fresh : AreNext s.metas r.fresh
-
--- every other metavariable stays
-Stays : List (Decl Term) → List (Decl Term) → ℕ → Type 0
-Stays ds cs g = (k : ℕ) → k < length ds → k ≢ g → slice_get cs k ≡ slice_get ds k
-
-module _ (s : State) (g : ℕ) (d : Decl Term) (there : slice_get s.metas g ≡ Some d) where
-  module _ (ok : IsLegalMetas (rules_env s.items) (rules_metas s.metas)) (unset : d.value ≡ None) where
-    intro_advances : (x : Text) (r : Moved) → IsIntro s.items s.metas g d x r → Advances s g r
-    intro_advances x r i =
-        let entry : Local Term = record { name = x; ty = i.domain } in
-        let Γ = more d.ctx x i.domain in
-        let made = plain.declared Γ i.codomain s.metas in
-        let ctx = extended_legal s.items s.metas ok d.ctx entry (context_legal s.items s.metas ok g d there) i.domain_sort in
-        let ok' = declared_legal s.items s.metas ok Γ i.codomain ctx i.codomain_sort in
-        let there' = declared_before s.metas Γ i.codomain g (slice_get_within s.metas g d there) ∙ there in
-        record {
-          legal = settled_legal s.items made ok' g d i.value r.metas there' unset i.settles;
-          extend = extend_more s.metas made r.metas (extends_same s.metas made (λ k l. declared_before s.metas Γ i.codomain k l)) (extend_settled made r.metas g d i.value there' unset i.settles.is);
-          fresh = subst (AreNext s.metas) (sym i.fresh) one_goal;
-        }
-
-    exact_advances : (r : Moved) → IsExact s.items s.metas g d r → Advances s g r
-    exact_advances r i = record {
-      legal = settled_legal s.items s.metas ok g d i.value r.metas there unset i.settles;
-      extend = extend_settled s.metas r.metas g d i.value there unset i.settles.is;
-      fresh = subst (AreNext s.metas) (sym i.fresh) no_goal;
-    }
-
-    advances : (m : Move) (n l : ℕ) (r : Moved) → step s.items s.metas g d m n ≡ Gave r l → Advances s g r
-    advances (move.Intro x) n l r e = intro_advances x r (intro_gave s.items s.metas g d x n l r e)
-    advances (move.Exact t) n l r e = exact_advances r (exact_gave s.items s.metas g d t n l r e)
-    advances (move.Apply t) n l r e = absurd cc
-    advances (move.Refine t) n l r e = absurd cc
-    advances (move.Have x t) n l r e = absurd cc
-    advances move.Assumption n l r e = absurd cc
-    advances (move.Change t) n l r e = absurd cc
-    advances (move.Unfold a) n l r e = absurd cc
-
-  intro_stays : (x : Text) (r : Moved) → IsIntro s.items s.metas g d x r → (k : ℕ) → k < length s.metas → k ≢ g → slice_get r.metas k ≡ slice_get s.metas k
-  intro_stays x r i k l n =
-      let made = plain.declared (more d.ctx x i.domain) i.codomain s.metas in
-      ap (λ ds. slice_get ds k) i.settles.is ∙ assigned_other g i.value made k n ∙ declared_before s.metas (more d.ctx x i.domain) i.codomain k l
-
-  exact_stays : (r : Moved) → IsExact s.items s.metas g d r → (k : ℕ) → k < length s.metas → k ≢ g → slice_get r.metas k ≡ slice_get s.metas k
-  exact_stays r i k l n = ap (λ ds. slice_get ds k) i.settles.is ∙ assigned_other g i.value s.metas k n
-
-  stays : (m : Move) (u w : ℕ) (r : Moved) → step s.items s.metas g d m u ≡ Gave r w → (k : ℕ) → k < length s.metas → k ≢ g → slice_get r.metas k ≡ slice_get s.metas k
-  stays (move.Intro x) u w r e = intro_stays x r (intro_gave s.items s.metas g d x u w r e)
-  stays (move.Exact t) u w r e = exact_stays r (exact_gave s.items s.metas g d t u w r e)
-  stays (move.Apply t) u w r e = absurd cc
-  stays (move.Refine t) u w r e = absurd cc
-  stays (move.Have x t) u w r e = absurd cc
-  stays move.Assumption u w r e = absurd cc
-  stays (move.Change t) u w r e = absurd cc
-  stays (move.Unfold a) u w r e = absurd cc
-
--- ---- the laws
-
 -- an active goal has no value
-goal_unset : (s : State) (index g : ℕ) (d : Decl Term) → All (IsOpen s.metas) s.goals → slice_get s.goals index ≡ Some g → slice_get s.metas g ≡ Some d → d.value ≡ None
+pub goal_unset : (s : State) (index g : ℕ) (d : Decl Term) → All (IsOpen s.metas) s.goals → slice_get s.goals index ≡ Some g → slice_get s.metas g ≡ Some d → d.value ≡ None
 goal_unset s index g d a is there =
     let read : get_or s.goals index g ≡ g = get_or_from_slice_get s.goals index g g is in
     let here : IsOpen s.metas g = subst (IsOpen s.metas) read (a index g (slice_get_within s.goals index g is)) in
-    let same : Some here.0 ≡ Some d = sym here.1 ∙ there in
-    let decl : here.0 ≡ d = cc in
-    ap (λ (d : Decl Term). d.value) (sym decl) ∙ here.2
+    let same : here.0 ≡ d = same_Some here.0 d (sym here.1 ∙ there) in
+    ap (λ (d : Decl Term). d.value) (sym same) ∙ here.2
+
+pub step_advances : (s : State) (index g : ℕ) (d : Decl Term) (m : Move) (units left : ℕ) (made : Moved) (ok : IsLegalState s) (is : slice_get s.goals index ≡ Some g) (there : slice_get s.metas g ≡ Some d) → step s.items s.metas g d m units ≡ Gave made left
+    → Advances s.items s.metas g d there (goal_unset s index g d ok.active is there) ok.legal made
+step_advances s index g d m units left made ok is there e = given (step_gives s.items s.metas g d there (goal_unset s index g d ok.active is there) ok.legal m) units left made e
 
 pub step_follows : (s : State) (index g : ℕ) (d : Decl Term) (m : Move) (units left : ℕ) (made : Moved) (auto : Bool) → IsLegalState s → slice_get s.goals index ≡ Some g → slice_get s.metas g ≡ Some d
-    → step s.items s.metas g d m units ≡ Gave made left → MayFollow s made.metas (next_goals made.metas made.fresh s.goals auto)
+    → step s.items s.metas g d m units ≡ Gave made left → MayFollow s made.metas (next_goals made.metas (length s.metas) made.fresh s.goals auto)
 step_follows s index g d m units left made auto ok is there gave =
-    let a = advances s g d there ok.legal (goal_unset s index g d ok.active is there) m units left made gave in
+    let a = step_advances s index g d m units left made ok is there gave in
+    let open_now = ok.active in
     record {
-      extend = a.extend;
-      legal = a.legal;
-      active = active_next made.metas s.goals made.fresh auto;
-      once = distinct_filtered (is_open made.metas) _ (distinct_next s.metas s.goals made.fresh auto ok.active ok.once a.fresh);
+      extend = a.ended.extend;
+      legal = a.ended.legal;
+      active = active (length s.metas) made.metas made.fresh s.goals auto;
+      once = distinct (length s.metas) made.metas made.fresh s.goals auto (λ k e l. let o = open_now k e l in slice_get_within s.metas _ o.0 o.1) ok.once (λ k e l. let f = a.fresh k e l in f.later) a.once;
     }
 
 follows : (s : State) (index : ℕ) (auto : Bool) (s' : State) → IsLegalState s → IsMoved s index auto s' → MayFollow s s'.metas s'.goals × (s'.items ≡ s.items)
@@ -222,10 +141,116 @@ moving_is_legal s s' index text units left auto ok e =
 pub moving_keeps : MovingKeeps
 moving_keeps s s' index text units left auto ok e = let f = moving_follows s s' index text units left auto ok e in (f.1, f.0.extend)
 
+-- ---- footprint
+
+-- what a goal's declaration depends on, the goal depends on
+needed_below : (metas : Plain) (g k : ℕ) (d : Decl Term) → slice_get metas g ≡ Some d → d.value ≡ None → Depends (rules_metas metas) (declared_terms d) k → Depends (rules_metas metas) (none ▹ Meta g none) k
+needed_below metas g k d there unset E =
+    depends_more g (plain d) (declares metas g d there) (direct (or_right (occurs_in g none) _ (or_left (nat_eq g g) _ (eq-eqb g g refl))))
+    (subst (λ o. Depends (rules_metas metas) (and_value (declared_terms d) (option_map (λ (t : Term). t) o)) k) (sym unset) E)
+
+goal_needed : (metas : Plain) (g k : ℕ) → k ≡ g → Depends (rules_metas metas) (none ▹ Meta g none) k
+goal_needed metas g k e = direct (or_right (occurs_in k none) _ (or_left (nat_eq g k) _ (eq-eqb g k (sym e))))
+
+value_stays : (metas after : Plain) → Extend metas after → (k : ℕ) (d : Decl Term) (v : Term) → slice_get metas k ≡ Some d → d.value ≡ Some v → Stays metas after k
+value_stays metas after x k d v e w =
+    let c = x k d e in
+    c.1 ∙ ap Some (same_decl c.0 d c.2.ctx c.2.ty (c.2.value v w ∙ sym w)) ∙ sym e
+
+module _ (s : State) (index g : ℕ) (d : Decl Term) (m : Move) (units left : ℕ) (made : Moved) (ok : IsLegalState s) (is : slice_get s.goals index ≡ Some g) (there : slice_get s.metas g ≡ Some d) (gave : step s.items s.metas g d m units ≡ Gave made left) where
+  abbrev unset : d.value ≡ None
+  unset = goal_unset s index g d ok.active is there
+
+  step_stays : (k : ℕ) → k < length s.metas → (IsNeeded s.metas g k → ⊥) → Stays s.metas made.metas k
+  step_stays k l none_needed = go (step_advances s index g d m units left made ok is there gave).ended (slice_get s.metas k) refl
+    where
+      open_one : Ended s.items s.metas g d there unset ok.legal made.metas → (c : Decl Term) → slice_get s.metas k ≡ Some c → (o : Option Term) → c.value ≡ o → Stays s.metas made.metas k
+      open_one a c e (Some v) w = value_stays s.metas made.metas a.extend k c v e w
+      open_one a c e None w =
+          let free : Depends (rules_metas s.metas) (none ▹ Meta g none) k → ⊥ = λ E. none_needed (record { dependency = E; without_value = (c, e, w) }) in
+          a.others k l (λ n. elim n [ inl past ↦ absurd (omega arith) | inr E ↦ free (needed_below s.metas g k d there unset E) ]) (λ q. free (goal_needed s.metas g k q))
+
+      go : Ended s.items s.metas g d there unset ok.legal made.metas → (o : Option (Decl Term)) → slice_get s.metas k ≡ o → Stays s.metas made.metas k
+      go a None e = absurd (let p = past_the_end s.metas k e in omega arith)
+      go a (Some c) e = open_one a c e c.value refl
+
 pub moving_has_footprint : MovingHasFootprint
-moving_has_footprint s s' index g k text units left auto is e l n =
+moving_has_footprint s s' index g k text units left auto ok is e l apart =
     let i = moved_gave s s' index text units left auto e in
-    let same : Some i.goal ≡ Some g = sym i.goal_is ∙ is in
-    let here : i.goal ≡ g = cc in
-    let other : k ≢ i.goal = λ q. n (q ∙ here) in
-    ap (λ (t : State). slice_get t.metas k) (sym i.after) ∙ stays s i.goal i.decl i.decl_is i.move i.units i.left i.made i.gave k l other
+    let here : i.goal ≡ g = same_Some i.goal g (sym i.goal_is ∙ is) in
+    ap (λ (t : State). slice_get t.metas k) (sym i.after)
+    ∙ step_stays s index i.goal i.decl i.move i.units i.left i.made ok i.goal_is i.decl_is i.gave k l (λ n. apart (subst (λ x. IsNeeded s.metas x k) here n))
+
+-- ---- another goal
+
+-- terms of which each dependency stays look the same
+all_stay : (Δ : Env) (S Z : Plain) (X : Terms) → IsLegalMetas Δ (rules_metas S) → length (rules_metas S) ≤ length (rules_metas Z) → ((k : ℕ) → Depends (rules_metas S) X k → decl k (rules_metas S) ≡ decl k (rules_metas Z))
+    → unfold_all_metas (rules_metas Z) X ≡ unfold_all_metas (rules_metas S) X
+all_stay Δ S Z none ok l f = refl
+all_stay Δ S Z (us ▹ u) ok l f =
+    ap₂ (λ (vs : Terms) (v : Term). vs ▹ v) (all_stay Δ S Z us ok l (λ k E. f k (depends_wider (λ j w. direct (or_left (occurs_in j us) _ w)) E)))
+    (footprint_stays Δ (rules_metas S) (rules_metas Z) u ok l (λ k E. f k (depends_wider (λ j w. direct (or_right (occurs_in j us) _ w)) E)))
+
+rules_length : (S Z : Plain) → length S ≤ length Z → length (rules_metas S) ≤ length (rules_metas Z)
+rules_length S Z l = let a : length (rules_metas S) ≡ length S = length-map S (decl_of itself) in let b : length (rules_metas Z) ≡ length Z = length-map Z (decl_of itself) in omega arith
+
+-- what is known is declared
+module _ (items : List (Item Term)) (metas : Plain) (ok : IsLegalMetas (rules_env items) (rules_metas metas)) where
+  abbrev E : Env
+  E = reach (rules_env items) metas
+
+  abbrev Low : ℕ → Type 0
+  Low k = k < length metas
+
+  head_low : (h : Head) (i : RulesItem) → item_of h E ≡ Some i → InSet Low h
+  head_low (Named a) i e = tt
+  head_low (Numbered m) i e = go (slice_get metas m) refl (sym (meta_in items metas m) ∙ e)
+    where
+      go : (o : Option (Decl Term)) → slice_get metas m ≡ o → option_map (decl_tree itself m) o ≡ Some i → m < length metas
+      go None q p = absurd cc
+      go (Some c) q p = slice_get_within metas m c q
+
+  mutual
+    term_low : (t : Term) → Known E t → EachHead (InSet Low) t
+    term_low (Srt s) k = tt
+    term_low (Var i) k = tt
+    term_low (App f a) k = (term_low f k.0, term_low a k.1)
+    term_low (Lam A M) k = (term_low A k.0, term_low M k.1)
+    term_low (Pi A B) k = (term_low A k.0, term_low B k.1)
+    term_low (Con h us) k = (let i = k.0 in head_low h i.0 i.1, terms_low us k.1)
+
+    terms_low : (us : Terms) → AllKnown E us → EachHeadOfAll (InSet Low) us
+    terms_low none k = tt
+    terms_low (us ▹ u) k = (terms_low us k.0, term_low u k.1)
+
+  low_closed : IsClosed Low E
+  low_closed h i low e =
+      let s = reach_scoped items metas ok h i e in
+      record { params = terms_low i.params s.params_known; ty = (let t = s.ty in term_low i.ty t.1); body = λ M q. let b = s.body M q in term_low M b.1 }
+
+  -- a dependency of a declared metavariable is declared
+  dependency_low : (h k : ℕ) → h < length metas → Depends (rules_metas metas) (none ▹ Meta h none) k → k < length metas
+  dependency_low h k l D = dependency_in items Low metas low_closed (tt, (l, tt)) D
+
+earlier : (j : ℕ) (X : Terms) (o : Option Term) → occurs_in j X ≡ true → occurs_in j (and_value X o) ≡ true
+earlier j X None w = w
+earlier j X (Some v) w = or_left (occurs_in j X) _ w
+
+pub independent_goals_stay : IndependentGoalsStay
+independent_goals_stay s s' index g h d text units left auto ok is e there apart =
+    let f = moving_follows s s' index text units left auto ok e in
+    let S = rules_metas s.metas in
+    let Z = rules_metas s'.metas in
+    let low : h < length s.metas = slice_get_within s.metas h d there in
+    let stays : (k : ℕ) → Depends S (none ▹ Meta h none) k → Stays s.metas s'.metas k = λ k E.
+    moving_has_footprint s s' index g k text units left auto ok is e (dependency_low s.items s.metas ok.legal h k low E) (λ n. apart k n (record { dependency = E; without_value = n.without_value })) in
+    let same : (k : ℕ) → Depends S (none ▹ Meta h none) k → decl k S ≡ decl k Z = λ k E.
+    decl_means itself k s.metas ∙ ap (option_map (decl_of itself)) (sym (stays k E)) ∙ sym (decl_means itself k s'.metas) in
+    let from : (X : Terms) (k : ℕ) → ((j : ℕ) → occurs_in j X ≡ true → occurs_in j (declared_terms d) ≡ true) → Depends S X k → Depends S (none ▹ Meta h none) k = λ X k f E.
+    depends_more h (plain d) (declares s.metas h d there) (goal_needed s.metas h h refl) (depends_wider (λ j w. direct (earlier j (declared_terms d) (option_map itself d.value) (f j w))) E) in
+    let longer : length S ≤ length Z = rules_length s.metas s'.metas (extend_length s.metas s'.metas f.0.extend) in
+    record {
+      declared = stays h (goal_needed s.metas h h refl) ∙ there;
+      context = all_stay (rules_env s.items) s.metas s'.metas (rules_ctx d.ctx) ok.legal longer (λ k E. same k (from (rules_ctx d.ctx) k (λ j w. or_left (occurs_in j (rules_ctx d.ctx)) _ w) E));
+      ty = footprint_stays (rules_env s.items) S Z d.ty ok.legal longer (λ k E. same k (from (none ▹ d.ty) k (λ j w. or_right (occurs_in j (rules_ctx d.ctx)) _ w) E));
+    }

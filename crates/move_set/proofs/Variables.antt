@@ -1,7 +1,7 @@
 -- Variables as arguments, one by one.
-use Rattle.std.proofs.Common.{◌≡◌, ℕ, zero, suc, ◌-◌, ◌<◌, ◌≤◌, refl, sym, ap, ap₂, ◌∙◌, arith}
-use Rattle.ld_trees.specs.Term.{Var, ◌▹◌, Terms}
-use Rattle.move_set.specs.Moves.{variables_from}
+use Rattle.std.proofs.Common.{◌≡◌, ℕ, zero, suc, ◌-◌, ◌<◌, ◌≤◌, sym, ap, ap₂, ◌∙◌, arith}
+use Rattle.ld_trees.specs.Term.{Var, ◌▹◌}
+use Rattle.unification.specs.Patterns.{variables_from}
 
 pub one_more : (left count : ℕ) → 0 < left → left ≤ count → variables_from left (count - left) ▹ Var (left - 1) ≡ variables_from (left - 1) (count - (left - 1))
 one_more zero count l w = absurd (omega arith)

@@ -1,6 +1,6 @@
-pub mod Outcomes
-pub mod Holes
-pub mod Metavariables
+pub mod Refusals
+pub mod Asked
+pub mod Applying
 pub mod Moves
 pub mod Laws
 pub mod Faults

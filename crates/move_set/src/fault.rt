@@ -2,37 +2,33 @@
 
 ghost use Rattle.std.specs.Prelude.{◌≡◌};
 
-use kernel_check::KernelFault;
+use elaborate::ElabFault;
 use ld_terms::{Halt, Name, Terms};
-use meta_context::MetaFault;
+use pattern_unify::UnifyFault;
 use std::alloc::{AllocError, AllocFailed};
-use term_text::{ReadFault, ScopeFault};
+use term_text::ReadFault;
 
-/// Why a move makes no new state.
+/// Why a move makes no new state. Places are counted in bytes from the start of the move's text.
 #[derive(Debug, Drop)]
 pub enum MoveFault<H> {
-    /// The text isn't one move. `at` is the place, counted in bytes from the text's start, of the first token or bad byte with which no
-    /// move continues, or the text's length where it ends too early.
+    /// The text isn't one move. `at` is the place of the first token or bad byte with which no move continues, or the text's length where
+    /// it ends too early.
     Syntax { at: u64 },
     /// The index isn't below the number of active goals, which is `count`.
     NoGoal { index: u64, count: u64 },
-    /// A move that isn't built yet, or an `exact` whose term has a hole.
+    /// A move that isn't built yet.
     NotYet,
     /// An entry of the goal's context has the name.
     NameTaken { name: Name },
     /// The goal's type at weak head form is no product.
     NotProduct,
-    /// A name of the term can't be resolved. Places count from the start of the whole text. Never `ScopeFault::Unsolved` or
-    /// `ScopeFault::Memory`.
-    Scope(ScopeFault),
-    /// A type or a sort isn't found, or the type that was found isn't the goal's. Never `KernelFault::Fuel` or `KernelFault::Memory`.
-    Kernel(KernelFault<H>),
+    /// A `?` where none may stand, or a `_` that is still open at the end of the move.
+    Unsolved { at: u64 },
+    /// The elaboration of the move's term is refused, or a unification, a declaration or the kernel. Never `ElabFault::TooManyMetas`,
+    /// `ElabFault::Fuel` or `ElabFault::Memory`.
+    Elab(ElabFault<H>),
     /// 65,536 metavariables are declared.
     TooManyMetas,
-    /// The type of metavariable `m`, that of an entry of its context, or its value is deeper than 4,096.
-    TooDeep { m: u32 },
-    /// The value of metavariable `m` would depend on `m` itself.
-    Cycle { m: u32 },
     /// A unit of work was wanted and none was left.
     Fuel,
     /// Want of memory.
@@ -79,30 +75,28 @@ impl<H> From<ReadFault> for MoveFault<H> {
     }
 }
 
-impl<H> From<ScopeFault> for MoveFault<H> {
-    ghost use Rattle.move_set.specs.Faults.{scope_fault};
+impl<H> From<ElabFault<H>> for MoveFault<H> {
+    ghost use Rattle.move_set.specs.Faults.{elab_fault};
 
-    ghost from_gives = { λ f e. e ≡ scope_fault f };
+    ghost from_gives = { λ f e. e ≡ elab_fault f };
 
-    fn from(fault: ScopeFault) -> MoveFault<H> {
+    fn from(fault: ElabFault<H>) -> MoveFault<H> {
         match fault {
-            ScopeFault::Memory => MoveFault::Memory,
-            _ => MoveFault::Scope(fault),
+            ElabFault::TooManyMetas => MoveFault::TooManyMetas,
+            ElabFault::Fuel => MoveFault::Fuel,
+            ElabFault::Memory => MoveFault::Memory,
+            _ => MoveFault::Elab(fault),
         }
     }
 }
 
-impl<H: Copy> From<KernelFault<H>> for MoveFault<H> {
-    ghost use Rattle.move_set.specs.Faults.{kernel_fault};
+impl<H> From<UnifyFault<H>> for MoveFault<H> {
+    ghost use Rattle.move_set.specs.Faults.{unify_fault};
 
-    ghost from_gives = { λ f e. e ≡ kernel_fault f };
+    ghost from_gives = { λ f e. e ≡ unify_fault f };
 
-    fn from(fault: KernelFault<H>) -> MoveFault<H> {
-        match fault {
-            KernelFault::Fuel => MoveFault::Fuel,
-            KernelFault::Memory => MoveFault::Memory,
-            _ => MoveFault::Kernel(fault),
-        }
+    fn from(fault: UnifyFault<H>) -> MoveFault<H> {
+        MoveFault::from(ElabFault::from(fault))
     }
 }
 
@@ -115,20 +109,6 @@ impl<H> From<Halt> for MoveFault<H> {
         match halt {
             Halt::Fuel => MoveFault::Fuel,
             Halt::Memory => MoveFault::Memory,
-        }
-    }
-}
-
-impl<H> From<MetaFault> for MoveFault<H> {
-    ghost use Rattle.move_set.specs.Faults.{meta_fault};
-
-    ghost from_gives = { λ f e. e ≡ meta_fault f };
-
-    fn from(fault: MetaFault) -> MoveFault<H> {
-        match fault {
-            MetaFault::TooManyMetas => MoveFault::TooManyMetas,
-            MetaFault::TooDeep { m } => MoveFault::TooDeep { m },
-            MetaFault::Memory => MoveFault::Memory,
         }
     }
 }

@@ -1,6 +1,6 @@
 //! The laws of moves. Each function is a law, stated by its contract; none is called at run time.
 
-ghost use Rattle.move_set.specs.Laws.{MovingIsLegal, MovingKeeps, MovingHasFootprint};
+ghost use Rattle.move_set.specs.Laws.{MovingIsLegal, MovingKeeps, MovingHasFootprint, IndependentGoalsStay, MovesHaveFuelLaw, ApplyingUnfolds};
 
 /// A move in a legal state makes a legal state.
 #[tactic(auto, using(crate::proofs::States::moving_is_legal))]
@@ -14,8 +14,15 @@ pub fn moving_keeps()
     ensures { MovingKeeps }
 {}
 
-/// A move assigns its goal and what it declared itself, and no other metavariable.
-#[tactic(auto, using(crate::proofs::States::moving_has_footprint))]
+/// A move assigns open metavariables among its goal and the goal's dependencies, and what it declared itself, and no other metavariable.
+/// An open goal that needs none of these has the context and the type that it had, also with assigned metavariables unfolded.
 pub fn moving_has_footprint()
-    ensures { MovingHasFootprint }
+    ensures assigned { MovingHasFootprint }
+    ensures independent { IndependentGoalsStay }
+{}
+
+/// A move's answer with some units tells its answer with every other number of units. Applying a term is a turn and then the same.
+pub fn moves_have_fuel_law()
+    ensures fuel { MovesHaveFuelLaw }
+    ensures unfolds { ApplyingUnfolds }
 {}

@@ -1,35 +1,40 @@
-//! The moves `intro` and `exact` on a goal.
+//! The moves `intro`, `exact`, `refine` and `apply` on a goal.
 
-ghost use Rattle.std.specs.Prelude.{◌≡◌, ◌<◌, ◌++◌, All, IfOk, IfSome, OnOk, Some, ℕ, List as Listed, length, slice_get, filter, map};
+ghost use Rattle.std.specs.Prelude.{◌≡◌, ◌++◌, All, IfOk, Some, ℕ, List as Listed, slice_get};
 ghost use Rattle.ld_trees.specs.Term.{Term, Lam};
 ghost use Rattle.ld_terms.specs.Names.{IsTextName};
-ghost use Rattle.ld_terms.specs.Views.{Keeps, terms_of};
+ghost use Rattle.ld_terms.specs.Views.{Keeps};
 ghost use Rattle.ld_terms.specs.declared.globals.Decl.{Decl};
 ghost use Rattle.ld_terms.specs.declared.globals.Item.{Item};
 ghost use Rattle.ld_terms.specs.declared.globals.Local.{Local};
-ghost use Rattle.conversion.specs.Globals.{AreGlobalsOf, IsDeclOf};
+ghost use Rattle.term_syntax.specs.ReadsBack.{IsContext};
+ghost use Rattle.conversion.specs.Globals.{AreGlobalsOf, AreLocals, IsDeclOf};
 ghost use Rattle.meta_context.specs.Declaring.{IsOpen};
 ghost use Rattle.meta_context.specs.Entered.{names_of};
-ghost use Rattle.goal_state.specs.State.{is_open, plain_metas};
-ghost use Rattle.move_set.specs.Answers.{Answers, AreParts, AreRead, pair_trees, plain_moved};
-ghost use Rattle.move_set.specs.Metavariables.{reach};
+ghost use Rattle.meta_context.specs.Plain.{plain_items, plain_locals, rules_env};
+ghost use Rattle.meta_laws.specs.Legality.{IsLegalMetas};
+ghost use Rattle.goal_state.specs.State.{plain_metas, rules_metas};
+ghost use Rattle.unification.specs.Patterns.{over_all};
+ghost use Rattle.pattern_unify.specs.Answers.{AreRead};
+ghost use Rattle.move_set.specs.Answers.{Answers, plain_moved};
 ghost use Rattle.move_set.specs.Moves as spec;
 
+use crate::applying::{Application, apply, count_of, over_all, product_of, unapplied};
+use crate::asked::first_asked;
 use crate::fault::MoveFault;
-use crate::holes::has_hole;
-use crate::settling::{declare_in, extend, settle};
-use conversion::whnf;
+use elaborate::{Made, check, synth};
 use ld_terms::{Fuel, List, Local, Name, Terms, View};
-use meta_context::{Both, Env, Metas};
-use move_text::Move;
+use meta_context::{Env, Metas};
+use pattern_unify::{declare_in, extend, settle};
 use std::alloc::{AllocError, Global};
-use term_text::{Surface, scope_term};
+use term_text::Surface;
 
-/// What a move has come to: the metavariables, and the new goals in order.
+/// What a move has come to: the metavariables, the new goals in order, and the metavariables of the `_` of its text with their places.
 #[derive(Drop)]
 pub struct Moved<H: Copy> {
     pub metas: Metas<H>,
     pub fresh: List<u32>,
+    pub holes: List<(u32, u64)>,
 }
 
 /// Whether an entry has a name.
@@ -40,81 +45,35 @@ fn has_entry<H>(ctx: &[Local<H>], name: &Name) -> bool
         .any(|entry| entry.name.as_bytes() == name.as_bytes())
 }
 
-/// The names of entries. Fails for want of memory alone.
-fn names_in<H>(alloc: Global, ctx: &[Local<H>]) -> Result<Vec<Name>, AllocError>
-    ensures { IfOk result (λ v. v.items ≡ names_of ctx.now) }
-{
-    let mut names = Vec::new(alloc);
-    for entry in ctx {
-        names.push(entry.name.copy(alloc)?)?;
-    }
-    Ok(names)
-}
-
-/// The domain and the codomain of a product.
-fn parts<T: Terms>(terms: &T, h: T::Handle) -> Option<(T::Handle, T::Handle)>
-    requires { T.holds terms.now h }
-    ensures parts { AreParts (T.means terms.now) (T.means terms.now h) result }
-    ensures held { IfSome result (λ p. T.holds terms.now p.0 × T.holds terms.now p.1) }
-{
-    match terms.node(h) {
-        View::Pi(domain, codomain) => Some((domain, codomain)),
-        _ => None,
-    }
-}
-
-/// The domain and the codomain of a type that is a product at weak head form.
-fn product_of<T: Terms>(
+/// Goal g, which is open, is settled by a term.
+fn settled<T: Terms>(
     alloc: Global,
     terms: &mut T,
     env: &Env<T::Handle>,
-    metas: &Metas<T::Handle>,
+    metas: Metas<T::Handle>,
     fuel: &mut Fuel,
-    ty: T::Handle,
-) -> Result<(T::Handle, T::Handle), MoveFault<T::Handle>>
-    requires globals { AreGlobalsOf (T.holds terms.old) env.now metas.now }
-    requires ty { T.holds terms.old ty }
-    ensures value { (Δ : Listed (Item Term)) (Σ : Listed (Decl Term)) (A : Term) → AreRead (T.means terms.old) env.now metas.now Δ Σ → T.means terms.old ty ≡ A → Answers (T.holds terms.new) (T.means terms.new) (pair_trees (T.means terms.new)) (spec.product_of (reach Δ Σ) A fuel.old) fuel.new result }
-    ensures held { IfOk result (λ p. T.holds terms.new p.0 × T.holds terms.new p.1) }
+    g: u32,
+    value: T::Handle,
+    fresh: List<u32>,
+    holes: List<(u32, u64)>,
+) -> Result<Moved<T::Handle>, MoveFault<T::Handle>>
+    requires globals { AreGlobalsOf (T.holds terms.old) env.now metas }
+    requires open { IsOpen metas g }
+    requires value { T.holds terms.old value }
+    ensures value { (Δ : Listed (Item Term)) (Σ0 Σ : Listed (Decl Term)) (d : Decl Term) (v : Term) → AreRead (T.means terms.old) env.now metas Δ Σ → T.means terms.old value ≡ v → Answers (T.holds terms.new) (T.means terms.new) (plain_moved (T.means terms.new)) (spec.settled Δ Σ0 g d Σ v fresh holes fuel.old) fuel.new result }
+    ensures held { IfOk result (λ r. All (IsDeclOf (T.holds terms.new)) r.metas) }
     ensures kept { Keeps (T.holds terms.old) (T.means terms.old) (T.holds terms.new) (T.means terms.new) }
 {
-    let globals = Both { env, metas };
-    let form = whnf(alloc, terms, &globals, fuel, ty)?;
-    match parts(&*terms, form) {
-        Some(parts) => Ok(parts),
-        None => Err(MoveFault::NotProduct),
-    }
-}
-
-/// All variables of a context of so many entries, that of the entry entered first in front.
-fn variables<T: Terms>(
-    alloc: Global,
-    terms: &mut T,
-    count: u32,
-) -> Result<Vec<T::Handle>, AllocError>
-    ensures value { IfOk result (λ v. terms_of (map (T.means terms.new) v.items) ≡ spec.variables_from 0 count) }
-    ensures held { IfOk result (λ v. All (T.holds terms.new) v.items) }
-    ensures kept { Keeps (T.holds terms.old) (T.means terms.old) (T.holds terms.new) (T.means terms.new) }
-{
-    let mut made = Vec::new(alloc);
-    let mut left = count;
-    while left > 0 {
-        left -= 1;
-        made.push(terms.make(alloc, View::Var(left))?)?;
-    }
-    Ok(made)
-}
-
-/// How many entries a context has.
-fn count_of<H>(ctx: &[Local<H>]) -> u32
-    requires { length ctx.now < 999999000 }
-    ensures { result ≡ length ctx.now }
-{
-    ctx.len() as u32
+    let metas = settle(alloc, terms, env, &metas, fuel, g, value)?;
+    Ok(Moved {
+        metas,
+        fresh,
+        holes,
+    })
 }
 
 /// The abstraction over a domain of a metavariable applied to all variables of a context of so many entries.
-fn abstracted<T: Terms>(
+fn function_of<T: Terms>(
     alloc: Global,
     terms: &mut T,
     domain: T::Handle,
@@ -122,13 +81,41 @@ fn abstracted<T: Terms>(
     count: u32,
 ) -> Result<T::Handle, AllocError>
     requires { T.holds terms.old domain }
-    ensures value { IfOk result (λ h. T.means terms.new h ≡ Lam (T.means terms.old domain) (spec.over_all m count)) }
+    ensures value { IfOk result (λ h. T.means terms.new h ≡ Lam (T.means terms.old domain) (over_all m count)) }
     ensures held { IfOk result (T.holds terms.new) }
     ensures kept { Keeps (T.holds terms.old) (T.means terms.old) (T.holds terms.new) (T.means terms.new) }
 {
-    let args = variables(alloc, terms, count)?;
-    let body = terms.make(alloc, View::Meta(m, &args))?;
+    let body = over_all(alloc, terms, m, count)?;
     terms.make(alloc, View::Lam(domain, body))
+}
+
+/// A metavariable is declared over a context with the codomain, and goal g, which is open, is settled by its abstraction over the domain.
+fn abstracted<T: Terms>(
+    alloc: Global,
+    terms: &mut T,
+    env: &Env<T::Handle>,
+    metas: &Metas<T::Handle>,
+    fuel: &mut Fuel,
+    g: u32,
+    ctx: &[Local<T::Handle>],
+    domain: T::Handle,
+    codomain: T::Handle,
+) -> Result<Moved<T::Handle>, MoveFault<T::Handle>>
+    requires globals { AreGlobalsOf (T.holds terms.old) env.now metas.now }
+    requires open { IsOpen metas.now g }
+    requires context { AreLocals (T.holds terms.old) ctx.now }
+    requires names { IsContext (names_of ctx.now) }
+    requires domain { T.holds terms.old domain }
+    requires codomain { T.holds terms.old codomain }
+    ensures value { (Δ : Listed (Item Term)) (Σ : Listed (Decl Term)) (d : Decl Term) (Γ : Listed (Local Term)) (A B : Term) → AreRead (T.means terms.old) env.now metas.now Δ Σ → plain_locals (T.means terms.old) ctx.now ≡ Γ → T.means terms.old domain ≡ A → T.means terms.old codomain ≡ B → Answers (T.holds terms.new) (T.means terms.new) (plain_moved (T.means terms.new)) (spec.abstracted Δ Σ g d A B Γ fuel.old) fuel.new result }
+    ensures held { IfOk result (λ r. All (IsDeclOf (T.holds terms.new)) r.metas) }
+    ensures kept { Keeps (T.holds terms.old) (T.means terms.old) (T.holds terms.new) (T.means terms.new) }
+{
+    let (more, m) = declare_in(alloc, terms, env, metas, fuel, ctx, codomain)?;
+    let value = function_of(alloc, terms, domain, m, count_of(ctx))?;
+    let fresh = List::from_slice(alloc, &[m])?;
+    let holes = List::of(Vec::new(alloc));
+    settled(alloc, terms, env, more, fuel, g, value, fresh, holes)
 }
 
 /// `intro x` on an open goal: a new goal for the codomain of its type, over its context and an entry of that name for the domain.
@@ -157,21 +144,53 @@ pub fn intro<T: Terms>(
                 let name = name.copy(alloc)?;
                 return Err(MoveFault::NameTaken { name });
             }
-            let (domain, codomain) = product_of(alloc, terms, env, metas, fuel, decl.ty)?;
-            let entries = extend(alloc, terms, env, metas, fuel, ctx, name, domain)?;
-            let entries = entries.as_slice();
-            let (more, m) = declare_in(alloc, terms, env, metas, fuel, entries, codomain)?;
-            let count = count_of(entries);
-            let value = abstracted(alloc, terms, domain, m, count)?;
-            let metas = settle(alloc, terms, env, &more, fuel, g, value)?;
-            let fresh = List::from_slice(alloc, &[m])?;
-            Ok(Moved { metas, fresh })
+            let refusal = MoveFault::NotProduct;
+            let parts = product_of(alloc, terms, env, metas, fuel, decl.ty, refusal)?;
+            let entries = extend(alloc, terms, env, metas, fuel, ctx, name, parts.0)?;
+            let ctx = entries.as_slice();
+            abstracted(alloc, terms, env, metas, fuel, g, ctx, parts.0, parts.1)
         }
         None => unreachable!(),
     }
 }
 
-/// `exact t` on an open goal: the goal is settled by the term.
+/// `refine t` on an open goal of legal metavariables: the goal is settled by the term, and the `?` of the term are new goals.
+pub fn refine<T: Terms>(
+    alloc: Global,
+    terms: &mut T,
+    env: &Env<T::Handle>,
+    metas: &Metas<T::Handle>,
+    fuel: &mut Fuel,
+    g: u32,
+    text: &Surface,
+) -> Result<Moved<T::Handle>, MoveFault<T::Handle>>
+    requires globals { AreGlobalsOf (T.holds terms.old) env.now metas.now }
+    requires legal { IsLegalMetas (rules_env (plain_items (T.means terms.old) env.now)) (rules_metas (plain_metas (T.means terms.old) metas.now)) }
+    requires open { IsOpen metas.now g }
+    ensures value { (Δ : Listed (Item Term)) (Σ : Listed (Decl Term)) (d : Decl Term) → AreRead (T.means terms.old) env.now metas.now Δ Σ → slice_get Σ g ≡ Some d → Answers (T.holds terms.new) (T.means terms.new) (plain_moved (T.means terms.new)) (spec.refine Δ Σ g d text.now fuel.old) fuel.new result }
+    ensures held { IfOk result (λ r. All (IsDeclOf (T.holds terms.new)) r.metas) }
+    ensures kept { Keeps (T.holds terms.old) (T.means terms.old) (T.holds terms.new) (T.means terms.new) }
+{
+    // The number tells that the contexts are as short as those of metavariables are.
+    let _count = metas.next();
+    match metas.decl(g) {
+        Some(decl) => {
+            let ctx = decl.ctx.as_slice();
+            let made = check(alloc, terms, env, metas, fuel, ctx, text, decl.ty)?;
+            let Made {
+                metas: more,
+                term,
+                ty: _,
+                goals,
+                holes,
+            } = made;
+            settled(alloc, terms, env, more, fuel, g, term, goals, holes)
+        }
+        None => unreachable!(),
+    }
+}
+
+/// `exact t` on an open goal of legal metavariables: as [`refine`], for a term without `?`.
 pub fn exact<T: Terms>(
     alloc: Global,
     terms: &mut T,
@@ -182,21 +201,67 @@ pub fn exact<T: Terms>(
     text: &Surface,
 ) -> Result<Moved<T::Handle>, MoveFault<T::Handle>>
     requires globals { AreGlobalsOf (T.holds terms.old) env.now metas.now }
+    requires legal { IsLegalMetas (rules_env (plain_items (T.means terms.old) env.now)) (rules_metas (plain_metas (T.means terms.old) metas.now)) }
     requires open { IsOpen metas.now g }
     ensures value { (Δ : Listed (Item Term)) (Σ : Listed (Decl Term)) (d : Decl Term) → AreRead (T.means terms.old) env.now metas.now Δ Σ → slice_get Σ g ≡ Some d → Answers (T.holds terms.new) (T.means terms.new) (plain_moved (T.means terms.new)) (spec.exact Δ Σ g d text.now fuel.old) fuel.new result }
     ensures held { IfOk result (λ r. All (IsDeclOf (T.holds terms.new)) r.metas) }
     ensures kept { Keeps (T.holds terms.old) (T.means terms.old) (T.holds terms.new) (T.means terms.new) }
 {
-    if has_hole(text) {
-        return Err(MoveFault::NotYet);
+    match first_asked(text) {
+        Some(at) => Err(MoveFault::Unsolved { at }),
+        None => refine(alloc, terms, env, metas, fuel, g, text),
     }
+}
+
+/// Some numbers and then others. Fails for want of memory alone.
+fn joined(first: List<u32>, second: &List<u32>) -> Result<List<u32>, AllocError>
+    ensures { IfOk result (λ l. l ≡ first ++ second.now) }
+{
+    let mut numbers = first.into_vec();
+    numbers.extend_from_slice(second.as_slice())?;
+    Ok(List::of(numbers))
+}
+
+/// `apply t` on an open goal of legal metavariables: the term is applied to new metavariables until its type is the goal's, and the goal is
+/// settled by that. The new goals are the `?` of the term and then the arguments.
+pub fn apply_to<T: Terms>(
+    alloc: Global,
+    terms: &mut T,
+    env: &Env<T::Handle>,
+    metas: &Metas<T::Handle>,
+    fuel: &mut Fuel,
+    g: u32,
+    text: &Surface,
+) -> Result<Moved<T::Handle>, MoveFault<T::Handle>>
+    requires globals { AreGlobalsOf (T.holds terms.old) env.now metas.now }
+    requires legal { IsLegalMetas (rules_env (plain_items (T.means terms.old) env.now)) (rules_metas (plain_metas (T.means terms.old) metas.now)) }
+    requires open { IsOpen metas.now g }
+    ensures value { (Δ : Listed (Item Term)) (Σ : Listed (Decl Term)) (d : Decl Term) → AreRead (T.means terms.old) env.now metas.now Δ Σ → slice_get Σ g ≡ Some d → Answers (T.holds terms.new) (T.means terms.new) (plain_moved (T.means terms.new)) (spec.apply_to Δ Σ g d text.now fuel.old) fuel.new result }
+    ensures held { IfOk result (λ r. All (IsDeclOf (T.holds terms.new)) r.metas) }
+    ensures kept { Keeps (T.holds terms.old) (T.means terms.old) (T.holds terms.new) (T.means terms.new) }
+{
+    // The number tells that the contexts are as short as those of metavariables are.
+    let _count = metas.next();
     match metas.decl(g) {
         Some(decl) => {
-            let names = names_in(alloc, decl.ctx.as_slice())?;
-            let value = scope_term(alloc, terms, env, &names, text)?;
-            let metas = settle(alloc, terms, env, metas, fuel, g, value)?;
-            let fresh = List::of(Vec::new(alloc));
-            Ok(Moved { metas, fresh })
+            let made = synth(alloc, terms, env, metas, fuel, decl.ctx.as_slice(), text)?;
+            let Made {
+                metas: more,
+                term,
+                ty,
+                goals,
+                holes,
+            } = made;
+            let start = unapplied(alloc, more, term, ty);
+            let applied = apply(alloc, terms, env, fuel, decl, start)?;
+            let Application {
+                metas: more,
+                args,
+                term,
+                ty: _,
+            } = applied;
+            let fresh = joined(goals, &args)?;
+            settled(alloc, terms, env, more, fuel, g, term, fresh, holes)
         }
         None => unreachable!(),
     }

@@ -1,28 +1,36 @@
 //! A move on a goal of a state.
 
-ghost use Rattle.std.specs.Prelude.{◌≡◌, ◌≢◌, ◌<◌, All, IfErr, IfOk, MatchResult, Some, None, ℕ, List as Listed, length, slice_get};
+ghost use Rattle.std.specs.Prelude.{◌≡◌, ◌<◌, All, IfErr, IfOk, MatchResult, Some, None, ℕ, List as Listed, length, slice_get};
 ghost use Rattle.ld_trees.specs.Term.{Term};
 ghost use Rattle.ld_terms.specs.Views.{Keeps};
 ghost use Rattle.ld_terms.specs.declared.globals.Decl.{Decl};
 ghost use Rattle.ld_terms.specs.declared.globals.Item.{Item};
 ghost use Rattle.conversion.specs.Globals.{AreGlobalsOf, IsDeclOf};
 ghost use Rattle.meta_context.specs.Declaring.{IsOpen};
-ghost use Rattle.goal_state.specs.State.{State, plain_metas};
+ghost use Rattle.meta_context.specs.Plain.{plain_items, rules_env};
+ghost use Rattle.meta_laws.specs.Legality.{IsLegalMetas};
+ghost use Rattle.goal_state.specs.State.{State, plain_metas, rules_metas};
+ghost use Rattle.unification.specs.Laws.{Stays};
+ghost use Rattle.move_set.specs.Laws.{IsNeeded};
 ghost use Rattle.goal_state.specs.StoredState.{plain_state};
 ghost use Rattle.goal_state.specs.Following.{Extend, MayFollow};
 ghost use Rattle.move_text.specs.Named.{HasTextName};
-ghost use Rattle.move_set.specs.Answers.{Answers, AreRead, Gives, IsRefused, Shows, plain_moved};
+ghost use Rattle.move_set.specs.Answers.{Answers, Gives, IsRefused, Shows, plain_moved};
+ghost use Rattle.pattern_unify.specs.Answers.{AreRead};
 ghost use Rattle.move_set.specs.Moves as spec;
-ghost use Rattle.move_set.specs.Outcomes.{Outcome};
+ghost use Rattle.move_set.specs.Answers as answers;
 ghost use Rattle.move_set.specs.declared.fault.MoveFault.TheVariants as fault;
+ghost use Rattle.move_set.specs.Refusals.{Outcome};
 
 use crate::fault::{MoveFault, Refused};
-use crate::moves::{Moved, exact, intro};
-use crate::next::next_goals;
+use crate::moves::{Moved, apply_to, exact, intro, refine};
+use crate::next::{first_open, next_goals};
+use elaborate::ElabFault;
 use goal_state::GoalState;
 use ld_terms::{Fuel, Terms};
 use meta_context::{Env, Metas};
 use move_text::{Move, read_move};
+use pattern_unify::UnifyFault;
 use std::alloc::Global;
 
 /// A step on an open goal.
@@ -36,6 +44,7 @@ fn make_step<T: Terms>(
     step: &Move,
 ) -> Result<Moved<T::Handle>, MoveFault<T::Handle>>
     requires globals { AreGlobalsOf (T.holds terms.old) env.now metas.now }
+    requires legal { IsLegalMetas (rules_env (plain_items (T.means terms.old) env.now)) (rules_metas (plain_metas (T.means terms.old) metas.now)) }
     requires open { IsOpen metas.now g }
     requires named { HasTextName step.now }
     ensures value { (Δ : Listed (Item Term)) (Σ : Listed (Decl Term)) (d : Decl Term) → AreRead (T.means terms.old) env.now metas.now Δ Σ → slice_get Σ g ≡ Some d → Answers (T.holds terms.new) (T.means terms.new) (plain_moved (T.means terms.new)) (spec.step Δ Σ g d step.now fuel.old) fuel.new result }
@@ -45,6 +54,8 @@ fn make_step<T: Terms>(
     match step {
         Move::Intro(name) => intro(alloc, terms, env, metas, fuel, g, name),
         Move::Exact(text) => exact(alloc, terms, env, metas, fuel, g, text),
+        Move::Refine(text) => refine(alloc, terms, env, metas, fuel, g, text),
+        Move::Apply(text) => apply_to(alloc, terms, env, metas, fuel, g, text),
         _ => Err(MoveFault::NotYet),
     }
 }
@@ -57,20 +68,78 @@ fn bare<T: Terms>(fault: MoveFault<T::Handle>) -> Refused<T>
     Refused { terms: None, fault }
 }
 
+/// Whether a fault of unification shows terms.
+fn unify_shows_terms<H>(fault: &UnifyFault<H>) -> bool
+    ensures { result ≡ answers.unify_shows_terms fault.now }
+{
+    matches!(fault, UnifyFault::Kernel(_) | UnifyFault::Mismatch { .. })
+}
+
+/// Whether a fault of elaboration shows terms.
+fn elab_shows_terms<H>(fault: &ElabFault<H>) -> bool
+    ensures { result ≡ answers.elab_shows_terms fault.now }
+{
+    match fault {
+        ElabFault::Unify(fault) => unify_shows_terms(fault),
+        ElabFault::NotFunction { .. } | ElabFault::NotType { .. } => true,
+        _ => false,
+    }
+}
+
+/// Whether a fault shows terms.
+fn shows_terms<H>(fault: &MoveFault<H>) -> bool
+    ensures { result ≡ answers.shows_terms fault.now }
+{
+    match fault {
+        MoveFault::Elab(fault) => elab_shows_terms(fault),
+        _ => false,
+    }
+}
+
 /// A refusal, with the store exactly where it shows terms.
 fn refused<T: Terms + Drop>(terms: T, fault: MoveFault<T::Handle>) -> Refused<T>
     ensures { (o : Outcome State) (left : ℕ) → Shows (T.holds terms) (T.means terms) o left fault → IsRefused T.holds T.means o result.terms result.fault }
 {
-    match fault {
-        MoveFault::Kernel(kernel) => Refused {
-            terms: Some(terms),
-            fault: MoveFault::Kernel(kernel),
-        },
-        fault => Refused { terms: None, fault },
-    }
+    let terms = if shows_terms(&fault) {
+        Some(terms)
+    } else {
+        None
+    };
+    Refused { terms, fault }
 }
 
 /// The state after what a move has come to.
+fn advance<T: Terms + Drop>(
+    alloc: Global,
+    state: &GoalState<T>,
+    terms: T,
+    moved: Moved<T::Handle>,
+    auto: bool,
+) -> Result<GoalState<T>, Refused<T>>
+    requires kept { Keeps (T.holds state.now.terms) (T.means state.now.terms) (T.holds terms) (T.means terms) }
+    requires held { All (IsDeclOf (T.holds terms)) moved.metas }
+    requires follows { MayFollow (plain_state T.means state.now) (plain_metas (T.means terms) moved.metas) (spec.next_goals moved.metas (length state.now.metas) moved.fresh state.now.goals auto) }
+    ensures state { IfOk result (λ s. plain_state T.means s ≡ spec.after_move (plain_state T.means state.now) auto (plain_moved (T.means terms) moved)) }
+    ensures memory { IfErr result (λ r. (r.terms ≡ None) × (r.fault ≡ fault.Memory)) }
+{
+    let Moved {
+        metas,
+        fresh,
+        holes: _,
+    } = moved;
+    let before = state.metas().next();
+    let fresh = fresh.as_slice();
+    let goals = match next_goals(alloc, &metas, before, fresh, state.goals(), auto) {
+        Ok(goals) => goals,
+        Err(_) => return Err(bare(MoveFault::Memory)),
+    };
+    match state.next_state(alloc, terms, metas, goals) {
+        Ok(next) => Ok(next),
+        Err(_) => Err(bare(MoveFault::Memory)),
+    }
+}
+
+/// The state after what a move has come to, where no hole of its text is open.
 fn finish<T: Terms + Drop>(
     alloc: Global,
     state: &GoalState<T>,
@@ -80,18 +149,12 @@ fn finish<T: Terms + Drop>(
 ) -> Result<GoalState<T>, Refused<T>>
     requires kept { Keeps (T.holds state.now.terms) (T.means state.now.terms) (T.holds terms) (T.means terms) }
     requires held { All (IsDeclOf (T.holds terms)) moved.metas }
-    requires follows { MayFollow (plain_state T.means state.now) (plain_metas (T.means terms) moved.metas) (spec.next_goals moved.metas moved.fresh state.now.goals auto) }
-    ensures state { IfOk result (λ s. plain_state T.means s ≡ spec.after_move (plain_state T.means state.now) auto (plain_moved (T.means terms) moved)) }
-    ensures memory { IfErr result (λ r. (r.terms ≡ None) × (r.fault ≡ fault.Memory)) }
+    requires follows { MayFollow (plain_state T.means state.now) (plain_metas (T.means terms) moved.metas) (spec.next_goals moved.metas (length state.now.metas) moved.fresh state.now.goals auto) }
+    ensures { (o : Outcome State) (left : ℕ) → spec.ended (plain_state T.means state.now) auto (plain_moved (T.means terms) moved) left ≡ o → MatchResult result (Gives T.means o) (λ r. IsRefused T.holds T.means o r.terms r.fault) }
 {
-    let Moved { metas, fresh } = moved;
-    let goals = match next_goals(alloc, &metas, fresh.as_slice(), state.goals(), auto) {
-        Ok(goals) => goals,
-        Err(_) => return Err(bare(MoveFault::Memory)),
-    };
-    match state.next_state(alloc, terms, metas, goals) {
-        Ok(next) => Ok(next),
-        Err(_) => Err(bare(MoveFault::Memory)),
+    match first_open(&moved.metas, moved.holes.as_slice()) {
+        Some(at) => Err(bare(MoveFault::Unsolved { at })),
+        None => advance(alloc, state, terms, moved, auto),
     }
 }
 
@@ -134,9 +197,11 @@ fn move_on<T: Terms + Drop>(
 
 /// The state that a move's text makes of a state, on the active goal at an index, counted from 0, with so many units of fuel.
 ///
-/// `intro x` makes the goal's codomain a new goal, with the entry `x` for its domain; `exact t` settles the goal by a term. With `auto` the
-/// active goals are the new ones and then the others that were active and are open still, in their order; without it the new ones alone.
-/// The given state stays as it was. The new one is legal, which is a fact of the type [`GoalState`].
+/// `intro x` makes the goal's codomain a new goal, with the entry `x` for its domain; `refine t` settles the goal by a term, whose `?` are new
+/// goals; `exact t` does so without `?`; `apply t` settles it by a term that is applied to new metavariables until its type is the goal's. A
+/// `_` must have a value in the end. With `auto` the active goals are the new ones and then the others that were active and are open still,
+/// in their order; without it the new ones alone. The given state stays as it was. The new one is legal, which is a fact of the type
+/// [`GoalState`].
 ///
 /// # Errors
 ///
@@ -154,8 +219,8 @@ pub fn run_move<T: Terms + Drop>(
     ensures value { MatchResult result (Gives T.means (spec.moved (plain_state T.means state.now) goal text.now units auto)) (λ r. IsRefused T.holds T.means (spec.moved (plain_state T.means state.now) goal text.now units auto) r.terms r.fault) }
     // Each declaration and value of the state stays.
     ensures kept { IfOk result (λ s. Extend (plain_state T.means state.now).metas (plain_state T.means s).metas) }
-    // Of the state's metavariables only the goal is assigned.
-    ensures assigns { IfOk result (λ s. (g k : ℕ) → slice_get state.now.goals goal ≡ Some g → k < length state.now.metas → k ≢ g → slice_get (plain_state T.means s).metas k ≡ slice_get (plain_state T.means state.now).metas k) }
+    // Of the state's metavariables only open ones among the goal and its dependencies are assigned.
+    ensures assigns { IfOk result (λ s. (g k : ℕ) → slice_get state.now.goals goal ≡ Some g → k < length state.now.metas → (IsNeeded (plain_state T.means state.now).metas g k → ⊥) → Stays (plain_state T.means state.now).metas (plain_state T.means s).metas k) }
 {
     // The store tells that the state is legal.
     let _terms = state.terms();

@@ -1,18 +1,29 @@
-ghost use Rattle.std.specs.Prelude.{◌≡◌, ◌+◌, ◌<◌, [], IfOk, IfSome, length};
+//! Moves over trees: each move once, the order of refusals and what they show, and units spent to the last.
+
+ghost use Rattle.std.specs.Prelude.{IfSome};
 ghost use Rattle.ld_terms.specs.Views.{Keeps};
 
 use crate::fault::{MoveFault, Refused};
-use crate::next::next_goals;
 use crate::running::run_move;
+use elaborate::ElabFault;
 use goal_state::GoalState;
-use kernel_check::KernelFault;
-use ld_terms::{Decl, Fuel, List, Terms, TreeTerms};
-use meta_context::{Env, Metas};
+use ld_terms::{Fuel, Terms, TreeTerms};
+use meta_context::Env;
+use pattern_unify::UnifyFault;
 use std::alloc::{AllocError, Global};
 use std::test::Fail;
-use term_text::{ScopeFault, read_term, scope_term};
+use term_text::{read_term, scope_term};
 
 const IDENTITY_TYPE: &[u8] = b"(A : *) -> A -> A";
+
+/// A function of two arguments and an argument for it.
+const PAIRING_TYPE: &[u8] = b"(A : *) -> (A -> A -> A) -> A -> A";
+
+/// The moves of its proof up to the goal `A`, which is metavariable 3.
+const PAIRING: &[&[u8]] = &[b"intro A", b"intro f", b"intro x"];
+
+/// A proof for every element, and an element.
+const INSTANCE_TYPE: &[u8] = b"(A : *) -> (P : A -> *) -> (a : A) -> ((x : A) -> P x) -> P a";
 
 /// The closed term of a text, or `None` where it is refused.
 fn closed<T: Terms>(alloc: Global, terms: &mut T, text: &[u8]) -> Option<T::Handle>
@@ -42,15 +53,17 @@ fn started<T: Terms + Drop>(alloc: Global, mut terms: T, text: &[u8]) -> Option<
     }
 }
 
-/// The state that a move makes of a state's first goal, or `None` where it is refused.
-fn after<T: Terms + Drop>(
+/// The state that a move makes of a state, on the goal at an index, or `None` where it is refused.
+fn on_goal<T: Terms + Drop>(
     alloc: Global,
     state: &Option<GoalState<T>>,
+    goal: u64,
     text: &[u8],
     units: u64,
+    auto: bool,
 ) -> Option<GoalState<T>> {
     match state {
-        Some(state) => match run_move(alloc, state, 0, text, units, true) {
+        Some(state) => match run_move(alloc, state, goal, text, units, auto) {
             Ok(next) => Some(next),
             Err(_) => None,
         },
@@ -58,20 +71,69 @@ fn after<T: Terms + Drop>(
     }
 }
 
-/// Whether a refusal has a store, and its fault; or `None` where a state is made.
-fn fault_of<T: Terms + Drop>(
+/// The state that moves make of a theorem, one after another, each on the first goal; or `None` where one is refused.
+fn after_moves<T: Terms + Drop>(
+    alloc: Global,
+    terms: T,
+    theorem: &[u8],
+    moves: &[&[u8]],
+) -> Option<GoalState<T>> {
+    let mut state = started(alloc, terms, theorem);
+    for text in moves {
+        state = on_goal(alloc, &state, 0, text, 100_000, true);
+    }
+    state
+}
+
+/// What a move answers.
+#[derive(Clone, Copy, PartialEq)]
+enum Answer {
+    Made,
+    Syntax(u64),
+    NoGoal(u64, u64),
+    NotYet,
+    NameTaken,
+    NotProduct,
+    Unsolved(u64),
+    UnknownName(u64),
+    /// At this depth, beside a store.
+    Mismatch(u32),
+    Fuel,
+    Other,
+}
+
+/// The answer that a refusal is.
+fn refusal_of<T: Terms + Drop>(refused: &Refused<T>) -> Answer {
+    match (&refused.fault, refused.terms.is_some()) {
+        (MoveFault::Elab(ElabFault::Unify(UnifyFault::Mismatch { depth, .. })), true) => {
+            Answer::Mismatch(*depth)
+        }
+        (MoveFault::Elab(ElabFault::UnknownName { at, .. }), false) => Answer::UnknownName(*at),
+        (MoveFault::Syntax { at }, false) => Answer::Syntax(*at),
+        (MoveFault::NoGoal { index, count }, false) => Answer::NoGoal(*index, *count),
+        (MoveFault::NotYet, false) => Answer::NotYet,
+        (MoveFault::NameTaken { .. }, false) => Answer::NameTaken,
+        (MoveFault::NotProduct, false) => Answer::NotProduct,
+        (MoveFault::Unsolved { at }, false) => Answer::Unsolved(*at),
+        (MoveFault::Fuel, false) => Answer::Fuel,
+        _ => Answer::Other,
+    }
+}
+
+/// What a move on the goal at an index of a state answers.
+fn answer_to<T: Terms + Drop>(
     alloc: Global,
     state: &Option<GoalState<T>>,
     goal: u64,
     text: &[u8],
     units: u64,
-) -> Option<(bool, MoveFault<T::Handle>)> {
+) -> Answer {
     match state {
         Some(state) => match run_move(alloc, state, goal, text, units, true) {
-            Ok(_) => None,
-            Err(Refused { terms, fault }) => Some((terms.is_some(), fault)),
+            Ok(_) => Answer::Made,
+            Err(refused) => refusal_of(&refused),
         },
-        None => None,
+        None => Answer::Other,
     }
 }
 
@@ -118,14 +180,16 @@ fn proves<T: Terms + Drop>(
     }
 }
 
-/// The same where there is a state.
-fn is_proved_by<T: Terms + Drop>(
+/// Whether moves prove a theorem, one after another, each on the first goal, by the term of a text.
+fn is_proof<T: Terms + Drop>(
     alloc: Global,
-    state: &Option<GoalState<T>>,
+    terms: T,
+    theorem: &[u8],
+    moves: &[&[u8]],
     text: &[u8],
 ) -> Result<bool, AllocError> {
-    match state {
-        Some(state) => proves(alloc, state, text),
+    match after_moves(alloc, terms, theorem, moves) {
+        Some(state) => proves(alloc, &state, text),
         None => Ok(false),
     }
 }
@@ -133,180 +197,143 @@ fn is_proved_by<T: Terms + Drop>(
 #[test]
 fn three_moves_prove_the_identity(rt: HostRuntime) -> Result<(), Fail> {
     let alloc = rt.alloc();
-    let first = started(alloc, TreeTerms::new(alloc)?, IDENTITY_TYPE);
-    let second = after(alloc, &first, b"intro A", 8);
-    let third = after(alloc, &second, b"intro x", 7);
-    let last = after(alloc, &third, b"exact x", 1);
-    assert!(rt; has_goals(&first, &[0], 1));
-    assert!(rt; has_goals(&second, &[1], 2));
-    assert!(rt; has_goals(&third, &[2], 3));
-    assert!(rt; has_entries(&third, 2, b"A", b"x"));
-    assert!(rt; has_goals(&last, &[], 3));
-    assert!(rt; is_proved_by(alloc, &last, b"fun (A : *) => fun (x : A) => x")?);
-    assert!(rt; !is_proved_by(alloc, &third, b"fun (A : *) => fun (x : A) => x")?);
+    let moves: &[&[u8]] = &[b"intro A", b"intro x", b"exact x"];
+    let text = b"fun (A : *) => fun (x : A) => x";
+    let terms = TreeTerms::new(alloc)?;
+    assert!(rt; is_proof(alloc, terms, IDENTITY_TYPE, moves, text)?);
+    let terms = TreeTerms::new(alloc)?;
+    assert!(rt; !is_proof(alloc, terms, IDENTITY_TYPE, &moves[..2], text)?);
     Ok(())
 }
 
 #[test]
 fn a_redex_is_a_proof_as_it_stands(rt: HostRuntime) -> Result<(), Fail> {
     let alloc = rt.alloc();
-    let first = started(alloc, TreeTerms::new(alloc)?, IDENTITY_TYPE);
-    let second = after(alloc, &first, b"intro A", 100_000);
-    let third = after(alloc, &second, b"intro x", 100_000);
-    let last = after(
-        alloc,
-        &third,
-        b"exact ((fun (B : *) => fun (y : B) => y) A x)",
-        100_000,
-    );
-    assert!(rt;
-        is_proved_by(
-            alloc,
-            &last,
-            b"fun (A : *) => fun (x : A) => (fun (B : *) => fun (y : B) => y) A x"
-        )?
-    );
+    let redex: &[u8] = b"exact ((fun (B : *) => fun (y : B) => y) A x)";
+    let moves: &[&[u8]] = &[b"intro A", b"intro x", redex];
+    let text = b"fun (A : *) => fun (x : A) => (fun (B : *) => fun (y : B) => y) A x";
+    let terms = TreeTerms::new(alloc)?;
+    assert!(rt; is_proof(alloc, terms, IDENTITY_TYPE, moves, text)?);
+    Ok(())
+}
+
+/// The goals of an introduction, and the entries of the last one's context.
+fn introduces<T: Terms + Drop>(alloc: Global, terms: T) -> bool {
+    let first = started(alloc, terms, IDENTITY_TYPE);
+    let second = on_goal(alloc, &first, 0, b"intro A", 8, true);
+    let third = on_goal(alloc, &second, 0, b"intro x", 7, true);
+    has_goals(&first, &[0], 1)
+        && has_goals(&second, &[1], 2)
+        && has_goals(&third, &[2], 3)
+        && has_entries(&third, 2, b"A", b"x")
+}
+
+#[test]
+fn introducing_extends_the_context(rt: HostRuntime) -> Result<(), Fail> {
+    let alloc = rt.alloc();
+    assert!(rt; introduces(alloc, TreeTerms::new(alloc)?));
+    Ok(())
+}
+
+/// The goals of a term with holes, and of one on the second of them; with `auto` and without it.
+fn refines<T: Terms + Drop>(alloc: Global, terms: T) -> bool {
+    let state = after_moves(alloc, terms, PAIRING_TYPE, PAIRING);
+    let refined = on_goal(alloc, &state, 0, b"refine f ? (f ? x)", 100_000, true);
+    let second = on_goal(alloc, &refined, 1, b"refine f x ?", 100_000, true);
+    let alone = on_goal(alloc, &refined, 1, b"refine f x ?", 100_000, false);
+    has_goals(&refined, &[4, 5], 6) && has_goals(&second, &[6, 4], 7) && has_goals(&alone, &[6], 7)
+}
+
+#[test]
+fn refining_leaves_goals_in_text_order(rt: HostRuntime) -> Result<(), Fail> {
+    let alloc = rt.alloc();
+    assert!(rt; refines(alloc, TreeTerms::new(alloc)?));
     Ok(())
 }
 
 #[test]
-fn one_unit_less_is_want_of_fuel(rt: HostRuntime) -> Result<(), Fail> {
+fn arguments_are_goals_behind_those_of_the_text(rt: HostRuntime) -> Result<(), Fail> {
     let alloc = rt.alloc();
-    let first = started(alloc, TreeTerms::new(alloc)?, IDENTITY_TYPE);
-    let short = fault_of(alloc, &first, 0, b"intro A", 7);
-    assert!(rt; matches!(short, Some((false, MoveFault::Fuel))));
-    let second = after(alloc, &first, b"intro A", 8);
-    let short = fault_of(alloc, &second, 0, b"intro x", 6);
-    assert!(rt; matches!(short, Some((false, MoveFault::Fuel))));
-    let third = after(alloc, &second, b"intro x", 7);
-    let short = fault_of(alloc, &third, 0, b"exact x", 0);
-    assert!(rt; matches!(short, Some((false, MoveFault::Fuel))));
-    assert!(rt; has_goals(&third, &[2], 3));
+    let moves: &[&[u8]] = &[
+        b"intro A",
+        b"intro f",
+        b"intro x",
+        b"apply f ?",
+        b"exact f x x",
+        b"exact x",
+    ];
+    let text = b"fun (A : *) => fun (f : A -> A -> A) => fun (x : A) => f (f x x) x";
+    let terms = TreeTerms::new(alloc)?;
+    assert!(rt; is_proof(alloc, terms, PAIRING_TYPE, moves, text)?);
     Ok(())
 }
 
+/// The argument of `h` is found out by `apply`, and that of a hole by `exact`.
 #[test]
-fn the_text_is_read_before_the_goal_is_looked_for(rt: HostRuntime) -> Result<(), Fail> {
+fn an_argument_is_found_out(rt: HostRuntime) -> Result<(), Fail> {
     let alloc = rt.alloc();
-    let first = started(alloc, TreeTerms::new(alloc)?, IDENTITY_TYPE);
-    let early = fault_of(alloc, &first, 1, b"intro", 0);
-    assert!(rt; matches!(early, Some((false, MoveFault::Syntax { at: 5 }))));
-    let unknown = fault_of(alloc, &first, 1, b" nope", 0);
-    assert!(rt; matches!(unknown, Some((false, MoveFault::Syntax { at: 1 }))));
-    let no_goal = fault_of(alloc, &first, 1, b"intro A", 0);
-    assert!(rt;
-        matches!(
-            no_goal,
-            Some((false, MoveFault::NoGoal { index: 1, count: 1 }))
-        )
-    );
-    let other = fault_of(alloc, &first, 0, b"apply A", 0);
-    assert!(rt; matches!(other, Some((false, MoveFault::NotYet))));
-    let hole = fault_of(alloc, &first, 0, b"exact _", 0);
-    assert!(rt; matches!(hole, Some((false, MoveFault::NotYet))));
-    assert!(rt; has_goals(&first, &[0], 1));
+    let text = b"fun (A : *) => fun (P : A -> *) => fun (a : A) => fun (h : (x : A) -> P x) => h a";
+    let applied: &[&[u8]] = &[b"intro A", b"intro P", b"intro a", b"intro h", b"apply h"];
+    let terms = TreeTerms::new(alloc)?;
+    assert!(rt; is_proof(alloc, terms, INSTANCE_TYPE, applied, text)?);
+    let exact: &[&[u8]] = &[b"intro A", b"intro P", b"intro a", b"intro h", b"exact h _"];
+    let terms = TreeTerms::new(alloc)?;
+    assert!(rt; is_proof(alloc, terms, INSTANCE_TYPE, exact, text)?);
     Ok(())
 }
 
-/// Whether a fault without a store says that this name is taken.
-fn is_taken<H>(fault: &Option<(bool, MoveFault<H>)>, wanted: &[u8]) -> bool {
-    match fault {
-        Some((false, MoveFault::NameTaken { name })) => name.as_bytes() == wanted,
-        _ => false,
-    }
-}
-
-/// Whether a fault without a store says that this name is unknown at a place.
-fn is_unknown<H>(fault: &Option<(bool, MoveFault<H>)>, place: u64, wanted: &[u8]) -> bool {
-    match fault {
-        Some((false, MoveFault::Scope(ScopeFault::UnknownName { at, name }))) => {
-            *at == place && name.as_bytes() == wanted
-        }
-        _ => false,
-    }
+/// `exact x` spends a unit on the node and one in the settling. `refine f ? ?` spends five units on nodes, two on sorts of the holes' types,
+/// and eleven on the type of the term in the settling. `apply f` spends one on the node, two on unifications that are given up, two on sorts,
+/// and eleven in the settling.
+fn spends<T: Terms + Drop>(alloc: Global, terms: T) -> bool {
+    let state = after_moves(alloc, terms, PAIRING_TYPE, PAIRING);
+    answer_to(alloc, &state, 0, b"exact x", 2) == Answer::Made
+        && answer_to(alloc, &state, 0, b"exact x", 1) == Answer::Fuel
+        && answer_to(alloc, &state, 0, b"refine f ? ?", 18) == Answer::Made
+        && answer_to(alloc, &state, 0, b"refine f ? ?", 17) == Answer::Fuel
+        && answer_to(alloc, &state, 0, b"apply f", 16) == Answer::Made
+        && answer_to(alloc, &state, 0, b"apply f", 15) == Answer::Fuel
 }
 
 #[test]
-fn a_refusal_leaves_the_state(rt: HostRuntime) -> Result<(), Fail> {
+fn units_are_spent_to_the_last(rt: HostRuntime) -> Result<(), Fail> {
     let alloc = rt.alloc();
-    let first = started(alloc, TreeTerms::new(alloc)?, IDENTITY_TYPE);
-    let second = after(alloc, &first, b"intro A", 8);
-    assert!(rt; is_taken(&fault_of(alloc, &second, 0, b"intro A", 0), b"A"));
-    assert!(rt; is_unknown(&fault_of(alloc, &second, 0, b"exact y", 0), 6, b"y"));
-    assert!(rt; has_goals(&second, &[1], 2));
-    let third = after(alloc, &second, b"intro x", 7);
-    let no_product = fault_of(alloc, &third, 0, b"intro y", 0);
-    assert!(rt; matches!(no_product, Some((false, MoveFault::NotProduct))));
-    assert!(rt; has_goals(&third, &[2], 3));
+    assert!(rt; spends(alloc, TreeTerms::new(alloc)?));
     Ok(())
 }
 
-#[test]
-fn a_mismatch_shows_its_terms(rt: HostRuntime) -> Result<(), Fail> {
-    let alloc = rt.alloc();
-    let first = started(alloc, TreeTerms::new(alloc)?, IDENTITY_TYPE);
-    let second = after(alloc, &first, b"intro A", 8);
-    let refused = fault_of(alloc, &second, 0, b"exact A", 100_000);
-    assert!(rt;
-        matches!(
-            refused,
-            Some((
-                true,
-                MoveFault::Kernel(KernelFault::Mismatch { depth: 1, .. })
-            ))
-        )
-    );
-    assert!(rt; has_goals(&second, &[1], 2));
-    Ok(())
+/// The text is read first, then the goal is looked for, and then the move is made.
+fn refuses_in_order<T: Terms + Drop>(alloc: Global, state: &Option<GoalState<T>>) -> bool {
+    answer_to(alloc, state, 1, b"intro", 0) == Answer::Syntax(5)
+        && answer_to(alloc, state, 1, b" nope", 0) == Answer::Syntax(1)
+        && answer_to(alloc, state, 1, b"exact ?", 0) == Answer::NoGoal(1, 1)
+        && answer_to(alloc, state, 0, b"exact ?", 0) == Answer::Unsolved(6)
+        && answer_to(alloc, state, 0, b"assumption", 0) == Answer::NotYet
+        && answer_to(alloc, state, 0, b"intro x", 0) == Answer::NameTaken
+        && answer_to(alloc, state, 0, b"intro y", 0) == Answer::NotProduct
+        && answer_to(alloc, state, 0, b"exact y", 0) == Answer::Fuel
+        && answer_to(alloc, state, 0, b"exact y", 1) == Answer::UnknownName(6)
 }
 
-/// A metavariable over the empty context.
-fn decl_of(alloc: Global, value: Option<u32>) -> Decl<u32>
-    ensures { result.ctx ≡ [] }
-{
-    Decl {
-        ctx: List::of(Vec::new(alloc)),
-        ty: 0,
-        value,
-    }
+/// A hole that is open at the end is refused, and a type that isn't the goal's is shown.
+fn refuses_in_the_end<T: Terms + Drop>(alloc: Global, state: &Option<GoalState<T>>) -> bool {
+    answer_to(alloc, state, 0, b"refine f ? _", 100_000) == Answer::Unsolved(11)
+        && answer_to(alloc, state, 0, b"apply f _", 100_000) == Answer::Unsolved(8)
+        && answer_to(alloc, state, 0, b"exact f", 100_000) == Answer::Mismatch(3)
+        && answer_to(alloc, state, 0, b"apply A", 100_000) == Answer::Mismatch(3)
 }
 
-/// One more metavariable over the empty context.
-fn more(alloc: Global, metas: &Metas<u32>, value: Option<u32>) -> Result<Metas<u32>, AllocError>
-    requires { length metas.now < 65536 }
-    ensures { IfOk result (λ ms. length ms ≡ length metas.now + 1) }
-{
-    let decl = decl_of(alloc, value);
-    let next = metas.push(alloc, decl)?;
-    Ok(next)
-}
-
-/// Four metavariables, of which 3 alone has no value.
-fn last_open(alloc: Global) -> Result<Metas<u32>, AllocError> {
-    let none = Metas::new();
-    let one = more(alloc, &none, Some(7))?;
-    let two = more(alloc, &one, Some(7))?;
-    let three = more(alloc, &two, Some(7))?;
-    more(alloc, &three, None)
+/// Each refusal leaves the state as it was.
+fn refuses<T: Terms + Drop>(alloc: Global, terms: T) -> bool {
+    let state = after_moves(alloc, terms, PAIRING_TYPE, PAIRING);
+    refuses_in_order(alloc, &state)
+        && refuses_in_the_end(alloc, &state)
+        && has_goals(&state, &[3], 4)
 }
 
 #[test]
-fn without_auto_the_other_goals_are_left_out(rt: HostRuntime) -> Result<(), Fail> {
+fn refusals_come_in_order(rt: HostRuntime) -> Result<(), Fail> {
     let alloc = rt.alloc();
-    let metas = last_open(alloc)?;
-    assert!(rt; next_goals(alloc, &metas, &[], &[1, 2, 3], true)?.as_slice() == [3].as_slice());
-    assert!(rt;
-        next_goals(alloc, &metas, &[], &[1, 2, 3], false)?
-            .as_slice()
-            .is_empty()
-    );
-    let first = started(alloc, TreeTerms::new(alloc)?, IDENTITY_TYPE);
-    match &first {
-        Some(state) => match run_move(alloc, state, 0, b"intro A", 8, false) {
-            Ok(next) => assert!(rt; next.goals() == [1].as_slice()),
-            Err(_) => assert!(rt; false),
-        },
-        None => assert!(rt; false),
-    }
+    assert!(rt; refuses(alloc, TreeTerms::new(alloc)?));
     Ok(())
 }

@@ -1,4 +1,4 @@
-use Rattle.std.proofs.Common.{◌≡◌, sym, subst}
+use Rattle.std.proofs.Common.{sym, subst}
 use Rattle.move_text.specs.declared.moves.Move.{Move}
 use Rattle.move_set.specs.Answers.{Answers, plain_moved}
 use Rattle.move_set.specs.Moves.{step}
@@ -15,3 +15,15 @@ returns-in-Exact-clause-value g c Δ Σ d r there =
     let h1 = g.T.Terms.holds c.exact.new.terms in
     let m1 = g.T.Terms.means c.exact.new.terms in
     subst (λ (m : Move). Answers h1 m1 (plain_moved m1) (step Δ Σ c.args.g d m c.args.fuel.now) c.exact.new.fuel c.exact.result) (sym c.in-Exact.is) (c.exact.ensures.value Δ Σ d r there)
+
+pub returns-in-Refine-clause-value : goal.returns-in-Refine-clause-value
+returns-in-Refine-clause-value g c Δ Σ d r there =
+    let h1 = g.T.Terms.holds c.refine.new.terms in
+    let m1 = g.T.Terms.means c.refine.new.terms in
+    subst (λ (m : Move). Answers h1 m1 (plain_moved m1) (step Δ Σ c.args.g d m c.args.fuel.now) c.refine.new.fuel c.refine.result) (sym c.in-Refine.is) (c.refine.ensures.value Δ Σ d r there)
+
+pub returns-in-Apply-clause-value : goal.returns-in-Apply-clause-value
+returns-in-Apply-clause-value g c Δ Σ d r there =
+    let h1 = g.T.Terms.holds c.apply_to.new.terms in
+    let m1 = g.T.Terms.means c.apply_to.new.terms in
+    subst (λ (m : Move). Answers h1 m1 (plain_moved m1) (step Δ Σ c.args.g d m c.args.fuel.now) c.apply_to.new.fuel c.apply_to.result) (sym c.in-Apply.is) (c.apply_to.ensures.value Δ Σ d r there)

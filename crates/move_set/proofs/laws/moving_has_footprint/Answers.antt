@@ -1,0 +1,8 @@
+use Rattle.move_set.proofs.States.{moving_has_footprint, independent_goals_stay}
+use Rattle.move_set.proofs.laws.moving_has_footprint.Goals as goal
+
+pub returns-clause-assigned : goal.returns-clause-assigned
+returns-clause-assigned c = moving_has_footprint
+
+pub returns-clause-independent : goal.returns-clause-independent
+returns-clause-independent c = independent_goals_stay
