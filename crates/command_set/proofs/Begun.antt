@@ -1,5 +1,5 @@
--- What the faults of starts and moves show is what the replies say.
-use Rattle.std.proofs.Common.{◌≡◌, ◌≢◌, ℕ, List, [], Option, Some, None, Ok, Err, refl, sym, ap, ◌∙◌, subst}
+-- What the faults of starts show is what the replies say.
+use Rattle.std.proofs.Common.{◌≡◌, ◌≢◌, ℕ, List, [], None, Ok, Err, refl, sym, ap, ◌∙◌}
 use Rattle.ld_trees.specs.Term.{Term}
 use Rattle.ld_terms.specs.Views.{Keeps}
 use Rattle.ld_terms.specs.declared.globals.Item.{Item}
@@ -15,25 +15,19 @@ use Rattle.kernel_check.specs.declared.fault.KernelFault.{KernelFault}
 use Rattle.kernel_check.specs.declared.fault.KernelFault.TheVariants as fault
 use Rattle.meta_context.specs.Plain.{plain_items}
 use Rattle.goal_state.specs.State.{State}
-use Rattle.goal_state.specs.Starting.{Started, Inferred, started}
+use Rattle.goal_state.specs.Starting.{Started, started}
 use Rattle.goal_state.specs.Answers.{ShowsRefusal, ShowsStart}
 use Rattle.goal_state.specs.declared.fault.StartFault.{StartFault}
 use Rattle.goal_state.specs.declared.fault.StartFault.TheVariants as starting
-use Rattle.move_set.specs.Answers.{ShowsKernel, ShowsScope, IsRefused}
-use Rattle.move_set.specs.Outcomes.{Outcome}
-use Rattle.move_set.specs.declared.fault.MoveFault.{MoveFault}
-use Rattle.move_set.specs.declared.fault.MoveFault.TheVariants as moving
 use Rattle.reply_text.specs.Refusals.{scoping, syntax}
 use Rattle.reply_text.specs.Showable.{IsShowable, fault_members}
-use Rattle.command_set.specs.Goals.{Given, says, inferred, begun, resolved, parsed, made, move_refusal}
-use Rattle.command_set.specs.Shown.{IsShownStart, IsShownIn, IsShownMove}
+use Rattle.command_set.specs.Goals.{says, inferred, begun, resolved, parsed}
+use Rattle.command_set.specs.Shown.{IsShownStart}
 use Rattle.command_set.specs.Stored.{IsStored}
 use Rattle.command_set.proofs.Kept.{items_kept}
 use Rattle.command_set.proofs.Shown.{arities_again}
 
 module _ {H : Type 0} (holds : H → Type 0) (means : H → Term) where
-  -- ---- starts
-
   start_kernel : (r : KernelOutcome State) (left : ℕ) (e : KernelFault H) → ShowsRefusal holds means r left e → inferred r ≡ says (fault_members means None e)
   unfolding fault_members
   start_kernel r left (fault.NotType n x) s = ap inferred s.0
@@ -58,50 +52,6 @@ module _ {H : Type 0} (holds : H → Type 0) (means : H → Term) where
   start_showable o units left (starting.Kernel e) s = refusal_showable s.0 left e s.2
   start_showable o units left (starting.TooDeep m) s = tt
   start_showable o units left starting.Memory s = tt
-
-  -- ---- moves
-
-  pub move_kernel : (o : Outcome State) (left : ℕ) (e : KernelFault H) → ShowsKernel holds means o left e → made o ≡ says (fault_members means None e)
-  unfolding fault_members move_refusal
-  move_kernel o left (fault.NotType n x) s = ap made s.0
-  move_kernel o left (fault.NotFunction n x y) s = ap made s.0
-  move_kernel o left (fault.Mismatch n x y) s = ap made s.0
-  move_kernel o left (fault.ReductIllTyped n x y) s = ap made s.0
-  move_kernel o left fault.Fuel s = absurd s
-  move_kernel o left fault.Memory s = absurd s
-
-  kernel_showable : (o : Outcome State) (left : ℕ) (e : KernelFault H) → ShowsKernel holds means o left e → IsShowable holds e
-  kernel_showable o left (fault.NotType n x) s = s.1
-  kernel_showable o left (fault.NotFunction n x y) s = (s.1, s.2)
-  kernel_showable o left (fault.Mismatch n x y) s = (s.1, s.2)
-  kernel_showable o left (fault.ReductIllTyped n x y) s = (s.1, s.2)
-  kernel_showable o left fault.Fuel s = absurd s
-  kernel_showable o left fault.Memory s = absurd s
-
-pub move_scope : (o : Outcome State) (left : ℕ) (e : ScopeFault) → ShowsScope o left e → made o ≡ says (scoping None e)
-unfolding move_refusal
-move_scope o left (unresolved.UnknownName at name) s = ap made s
-move_scope o left (unresolved.WrongCount at name given wanted) s = ap made s
-move_scope o left (unresolved.Unsolved at) s = absurd s
-move_scope o left unresolved.Memory s = absurd s
-
-module _ {T H : Type 0} (holds : T → H → Type 0) (means : T → H → Term) where
-  shown_in : (terms : Option T) (t : T) (e : KernelFault H) → terms ≡ Some t → IsShowable (holds t) e → IsShownIn holds terms e
-  shown_in terms t e at h = subst (λ o. IsShownIn holds o e) (sym at) h
-
-  pub move_showable : (o : Outcome State) (terms : Option T) (e : MoveFault H) → IsRefused holds means o terms e → IsShownMove holds terms e
-  move_showable o terms (moving.Kernel e) s = shown_in terms s.0 e s.1 (kernel_showable (holds s.0) (means s.0) o s.2 e s.3)
-  move_showable o terms (moving.Syntax at) s = tt
-  move_showable o terms (moving.NoGoal index count) s = tt
-  move_showable o terms moving.NotYet s = tt
-  move_showable o terms (moving.NameTaken name) s = tt
-  move_showable o terms moving.NotProduct s = tt
-  move_showable o terms (moving.Scope e) s = tt
-  move_showable o terms moving.TooManyMetas s = tt
-  move_showable o terms (moving.TooDeep m) s = tt
-  move_showable o terms (moving.Cycle m) s = tt
-  move_showable o terms moving.Fuel s = tt
-  move_showable o terms moving.Memory s = tt
 
 -- ---- names and texts
 

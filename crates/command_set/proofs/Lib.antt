@@ -3,6 +3,7 @@ pub mod Answered
 pub mod Kept
 pub mod Echoed
 pub mod Begun
+pub mod Refused
 pub mod Results
 pub mod NoSquare
 pub mod ReadBack

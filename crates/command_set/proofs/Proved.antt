@@ -24,7 +24,8 @@ use Rattle.goal_state.specs.Starting.{Started, TooDeep, Inferred, first_state, s
 use Rattle.goal_state.specs.Following.{Extend}
 use Rattle.goal_state.proofs.Starts.{starting_is_legal}
 use Rattle.goal_state.proofs.Rooted.{solved_is_proved}
-use Rattle.move_set.specs.Outcomes as move
+use Rattle.unification.specs.Steps as steps
+use Rattle.move_set.specs.Refusals as move
 use Rattle.move_set.specs.Moves.{moved}
 use Rattle.move_set.proofs.States.{moving_is_legal, moving_keeps}
 use Rattle.state_print.specs.Pieces.{is_solved, proof_json}
@@ -98,7 +99,7 @@ root_kept Δ Δ' g g' (d ∷ ds) (c ∷ cs) root extend = let x = extend 0 d ref
 move_proves : (text : Text) (s : State) (goal : ℕ) (by : Text) (fuel : ℕ) (auto : Bool) → Proves text s → MakesSo text (move_on s goal by fuel auto)
 move_proves text s goal by fuel auto proves = case (moved s goal by fuel auto) refl where
   case : (o : move.Outcome State) → moved s goal by fuel auto ≡ o → MakesSo text (made o)
-  case (move.Gave s' left) e =
+  case (steps.Gave s' left) e =
       let keeps = moving_keeps s s' goal by fuel left auto proves.legal e in
       let root : root_type s' ≡ root_type s = root_kept s.items s'.items s.goals s'.goals s.metas s'.metas proves.legal.root keeps.1 in
       record {
@@ -106,8 +107,8 @@ move_proves text s goal by fuel auto proves = case (moved s goal by fuel auto) r
         sound = subst IsSound (sym keeps.0) proves.sound;
         theorem = subst (λ is. ReadsAs is text (root_type s')) (sym keeps.0) (subst (ReadsAs s.items text) (sym root) proves.theorem);
       }
-  case (move.Refused r left) e = tt
-  case move.OutOfFuel e = tt
+  case (steps.Refused r left) e = tt
+  case steps.OutOfFuel e = tt
 
 -- ---- `env.add`
 

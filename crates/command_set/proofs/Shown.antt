@@ -20,6 +20,7 @@ use Rattle.term_syntax.specs.ReadsBack.{IsContext}
 use Rattle.term_text.specs.Scoped.{arities}
 use Rattle.meta_context.specs.Entered.{names_of, AreEntered}
 use Rattle.meta_context.specs.Plain.{plain_locals, plain_item, plain_items}
+use Rattle.state_print.proofs.Turns.{names_again, types_again}
 use Rattle.command_set.specs.Inspect.{kind_of, value_of, front, back, item_members, found_item, inspect}
 use Rattle.reply_text.specs.Refusals.{no_item as refuse_name}
 
@@ -60,14 +61,6 @@ module _ {H : Type 0} (means : H → Term) where
   pub arities_again : (is : List (Item H)) → arities is ≡ arities (plain_items means is)
   arities_again is = fun_ext (λ a. sym (ap (option_map (λ (i : Item Term). length i.params)) (named_again is a) ∙ arity_again (item_named is a)))
 
-  pub names_again : (ls : List (Local H)) → names_of ls ≡ names_of (plain_locals means ls)
-  names_again [] = refl
-  names_again (l ∷ ls) = ap (λ ns. l.name ∷ ns) (names_again ls)
-
-  pub types_again : (ls : List (Local H)) → map (λ (l : Local H). means l.ty) ls ≡ map (λ (l : Local Term). l.ty) (plain_locals means ls)
-  types_again [] = refl
-  types_again (l ∷ ls) = ap (λ ts. means l.ty ∷ ts) (types_again ls)
-
   pub kind_again : (o : Option H) → kind_of (option_map means o) ≡ kind_of o
   kind_again None = refl
   kind_again (Some x) = refl
@@ -80,10 +73,10 @@ module _ {H : Type 0} (means : H → Term) where
   names_in_order is = map_reverse (λ (i : Item Term). quoted i.name) (plain_items means is) ∙ ap reverse (quoted_again is) ∙ sym (map_reverse (λ (i : Item H). quoted i.name) is)
 
   pub front_is : (i : Item H) → string (codes "kind") (kind_of i.body) ∷ record { key = codes "params"; value = context_json (map (λ l. l.name) i.params) (map (λ l. means l.ty) i.params) } ∷ [] ≡ front (plain_item means i)
-  front_is i = ap₂ (λ k v. string (codes "kind") k ∷ record { key = codes "params"; value = v } ∷ []) (sym (kind_again i.body)) (ap₂ context_json (names_again i.params) (types_again i.params))
+  front_is i = ap₂ (λ k v. string (codes "kind") k ∷ record { key = codes "params"; value = v } ∷ []) (sym (kind_again i.body)) (ap₂ context_json (names_again means i.params) (types_again means i.params))
 
   pub back_is : (i : Item H) → record { key = codes "type"; value = term_json (shown_names (map (λ l. l.name) i.params)) (means i.ty) } ∷ value_of (shown_names (map (λ l. l.name) i.params)) (option_map means i.body) ≡ back (plain_item means i)
-  back_is i = ap (λ ns. record { key = codes "type"; value = term_json (shown_names ns) (means i.ty) } ∷ value_of (shown_names ns) (option_map means i.body)) (names_again i.params)
+  back_is i = ap (λ ns. record { key = codes "type"; value = term_json (shown_names ns) (means i.ty) } ∷ value_of (shown_names ns) (option_map means i.body)) (names_again means i.params)
 
   pub shown_item : (items : List (Item H)) (Δ : List (Item Term)) (name : Text) (i : Item H) → plain_items means items ≡ Δ → item_named items name ≡ Some i → item_members (plain_item means i) ≡ inspect Δ name
   unfolding inspect

@@ -1,9 +1,11 @@
 -- Environments and replies of worked examples.
 use Rattle.std.specs.Prelude.{ℕ, List, [], ◌∷◌, Some, None, false, codes}
-use Rattle.ld_trees.specs.Term.{Term, Star, Var, App, Pi, Const, none, ◌▹◌}
+use Rattle.ld_trees.specs.Term.{Term, Star, Var, App, Lam, Pi, Const, Meta, none, ◌▹◌}
 use Rattle.ld_terms.specs.declared.globals.Local.{Local}
 use Rattle.ld_terms.specs.declared.globals.Item.{Item}
 use Rattle.repl_json.specs.declared.reply.Body.{Body}
+use Rattle.goal_state.specs.State.{State}
+use Rattle.state_print.specs.Examples.{both, first_introduced, second_introduced, goal, assigned, state}
 
 -- a reply that makes nothing: its text before the value of `seq`, and its text behind it
 abbrev pub reply : List ℕ → List ℕ → Body
@@ -49,3 +51,11 @@ negation =
     define (codes "not") (param (codes "A") Star ∷ []) (Pi (Var 0) (closed (codes "falsum"))) Star
     ∷ define (codes "falsum") [] (Pi Star (Var 0)) Star
     ∷ []
+
+-- A : *, x : A |- ?2 : A after `refine ?`, with the new goal A : *, x : A |- ?3 : A
+abbrev pub refined : State
+refined = state (first_introduced ∷ second_introduced ∷ assigned both (Var 1) (Meta 3 (none ▹ Var 1 ▹ Var 0)) ∷ goal both (Var 1) ∷ []) (3 ∷ [])
+
+-- the same after `apply fun (y : A) => y`
+abbrev pub applied : State
+applied = state (first_introduced ∷ second_introduced ∷ assigned both (Var 1) (App (Lam (Var 1) (Var 0)) (Meta 3 (none ▹ Var 1 ▹ Var 0))) ∷ goal both (Var 1) ∷ []) (3 ∷ [])

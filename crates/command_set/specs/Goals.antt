@@ -11,7 +11,10 @@ use Rattle.term_text.specs.Scoped.{arities}
 use Rattle.conversion.specs.Runs as kernel
 use Rattle.goal_state.specs.State.{State}
 use Rattle.goal_state.specs.Starting.{Started, TooDeep, Inferred, started}
-use Rattle.move_set.specs.Outcomes as move
+use Rattle.unification.specs.Steps as steps
+use Rattle.unification.specs.Refusals as unification
+use Rattle.elaboration.specs.Refusals as elaboration
+use Rattle.move_set.specs.Refusals as move
 use Rattle.move_set.specs.Moves.{moved}
 use Rattle.state_print.specs.Pieces.{state_text}
 use Rattle.state_print.specs.Bodies.{made_body, printed_body}
@@ -21,6 +24,26 @@ use Rattle.reply_text.specs.Members.{body_text}
 use Rattle.reply_text.specs.Refusals as reply
 use Rattle.state_tree.specs.Value.{Value, Says, MakesState}
 
+-- why two terms aren't unified
+abbrev pub unify_refusal : unification.Refusal → Members
+unify_refusal (unification.Kernel r) = reply.kernel None r
+unify_refusal (unification.Mismatch depth found wanted) = reply.kernel None (kernel.Mismatch depth found wanted)
+unify_refusal (unification.NotPattern m) = reply.of_goal (codes "notPattern") m
+unify_refusal (unification.Scope m level) = reply.out_of_scope m level
+unify_refusal (unification.Cycle m) = reply.of_goal (codes "cycle") m
+unify_refusal (unification.TooDeep m) = reply.of_goal (codes "tooDeep") m
+unify_refusal unification.TooManyMetas = reply.plain (codes "tooManyMetas") None
+
+-- why a text isn't elaborated
+abbrev pub elab_refusal : elaboration.Refusal → Members
+elab_refusal (elaboration.Unify r) = unify_refusal r
+elab_refusal (elaboration.UnknownName at name) = reply.unknown_name None at name
+elab_refusal (elaboration.WrongCount at name given wanted) = reply.wrong_count None at name given wanted
+elab_refusal (elaboration.NoExpected at) = reply.no_expected at
+elab_refusal (elaboration.NotFunction depth t found) = reply.kernel None (kernel.NotFunction depth t found)
+elab_refusal (elaboration.NotType depth t) = reply.kernel None (kernel.NotType depth t)
+elab_refusal elaboration.TooManyMetas = reply.plain (codes "tooManyMetas") None
+
 -- why a move makes no state
 unfoldable pub move_refusal : move.Refusal → Members
 move_refusal (move.Syntax at) = reply.syntax at
@@ -28,11 +51,9 @@ move_refusal (move.NoGoal index count) = reply.no_goal index count
 move_refusal move.NotYet = reply.plain (codes "notYet") None
 move_refusal (move.NameTaken name) = reply.name_taken None name
 move_refusal move.NotProduct = reply.plain (codes "notProduct") None
-move_refusal (move.Scope fault) = reply.scoping None fault
-move_refusal (move.Kernel r) = reply.kernel None r
+move_refusal (move.Unsolved at) = reply.unsolved None at
+move_refusal (move.Elab r) = elab_refusal r
 move_refusal move.TooManyMetas = reply.plain (codes "tooManyMetas") None
-move_refusal (move.TooDeep m) = reply.of_goal (codes "tooDeep") m
-move_refusal (move.Cycle m) = reply.of_goal (codes "cycle") m
 
 -- the reply that prints a state
 abbrev pub printed : State → Body
@@ -82,9 +103,9 @@ start items expr fuel = parsed items fuel (read expr)
 
 -- the state behind a move, or why there is none
 abbrev pub made : move.Outcome State → Given
-made (move.Gave s left) = makes s
-made (move.Refused r left) = says (move_refusal r)
-made move.OutOfFuel = says (reply.out_of_fuel None)
+made (steps.Gave s left) = makes s
+made (steps.Refused r left) = says (move_refusal r)
+made steps.OutOfFuel = says (reply.out_of_fuel None)
 
 -- a move on the active goal at an index of a state
 abbrev pub move_on : State → ℕ → Text → ℕ → Bool → Given

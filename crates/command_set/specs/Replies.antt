@@ -12,10 +12,14 @@ use Rattle.term_syntax.specs.Scoping.{Resolved, scope}
 use Rattle.term_syntax.specs.declared.surface.Surface.{Surface}
 use Rattle.term_text.specs.Scoped.{arities}
 use Rattle.conversion.specs.Runs.{Outcome, Gave, Refused, OutOfFuel}
+use Rattle.conversion.specs.Runs as runs
 use Rattle.kernel_check.specs.Inference.{infer}
 use Rattle.goal_state.specs.State.{State}
 use Rattle.goal_state.specs.Starting.{Started, TooDeep, Inferred, started}
-use Rattle.move_set.specs.Outcomes as move
+use Rattle.unification.specs.Steps as steps
+use Rattle.unification.specs.Refusals as unification
+use Rattle.elaboration.specs.Refusals as elaboration
+use Rattle.move_set.specs.Refusals as move
 use Rattle.move_set.specs.Moves.{moved}
 use Rattle.state_print.specs.Bodies.{made_body, printed_body}
 use Rattle.state_print.specs.Pieces.{state_text}
@@ -31,14 +35,14 @@ use Rattle.repl_json.specs.declared.request.Ask.TheVariants.{Echo, EnvAdd, EnvIn
 use Rattle.repl_json.specs.declared.request.Bad.TheVariants.{NotYet}
 use Rattle.reply_text.specs.Members.{body_text}
 use Rattle.reply_text.specs.Context.{shown_names}
-use Rattle.reply_text.proofs.ReplyLines.{ArePlain, AreUnbroken, reply_of, string_plain, term_unbroken, array_unbroken, context_unbroken, syntax_reply, fuel_reply, taken_reply, no_item_reply, plain_reply, goal_reply, no_goal_reply, scoping_reply, kernel_reply}
+use Rattle.reply_text.proofs.ReplyLines.{ArePlain, AreUnbroken, reply_of, string_plain, term_unbroken, array_unbroken, context_unbroken, syntax_reply, fuel_reply, taken_reply, no_item_reply, plain_reply, goal_reply, out_of_scope_reply, no_goal_reply, unknown_name_reply, wrong_count_reply, unsolved_reply, no_expected_reply, scoping_reply, kernel_reply}
 use Rattle.state_tree.specs.declared.work.Found.{Found}
 use Rattle.state_tree.specs.Value.{Value}
 use Rattle.state_tree.specs.Replies.{SaysReply}
 use Rattle.command_set.specs.Echo.{typed, inferred, resolved, parsed, echo}
 use Rattle.command_set.specs.Books.{item_refusal, book_refusal, added}
 use Rattle.command_set.specs.Inspect.{kind_of, value_of, front, back, item_members, found_item, inspect, catalog}
-use Rattle.command_set.specs.Goals.{Given, move_refusal, printed, makes, inferred as first_inferred, begun, resolved as first_resolved, parsed as first_parsed, start, made, move_on}
+use Rattle.command_set.specs.Goals.{Given, unify_refusal, elab_refusal, move_refusal, printed, makes, inferred as first_inferred, begun, resolved as first_resolved, parsed as first_parsed, start, made, move_on}
 use Rattle.command_set.specs.Values.{on, added_value, value}
 
 -- ---- `expr.echo`
@@ -138,6 +142,26 @@ start_reply : (items : List (Item Term)) (expr : Text) (fuel : ℕ) → SaysRepl
 unfolding start
 start_reply items expr fuel = first_parsed_reply items fuel (read expr)
 
+unify_reply : (r : unification.Refusal) → IsReply (body_text (unify_refusal r))
+unfolding escape_byte
+unify_reply (unification.Kernel r) = kernel_reply None r
+unify_reply (unification.Mismatch depth found wanted) = kernel_reply None (runs.Mismatch depth found wanted)
+unify_reply (unification.NotPattern m) = goal_reply (codes "notPattern") m refl
+unify_reply (unification.Scope m level) = out_of_scope_reply m level
+unify_reply (unification.Cycle m) = goal_reply (codes "cycle") m refl
+unify_reply (unification.TooDeep m) = goal_reply (codes "tooDeep") m refl
+unify_reply unification.TooManyMetas = plain_reply (codes "tooManyMetas") refl
+
+elab_reply : (r : elaboration.Refusal) → IsReply (body_text (elab_refusal r))
+unfolding escape_byte
+elab_reply (elaboration.Unify r) = unify_reply r
+elab_reply (elaboration.UnknownName at name) = unknown_name_reply None at name
+elab_reply (elaboration.WrongCount at name given wanted) = wrong_count_reply None at name given wanted
+elab_reply (elaboration.NoExpected at) = no_expected_reply at
+elab_reply (elaboration.NotFunction depth t found) = kernel_reply None (runs.NotFunction depth t found)
+elab_reply (elaboration.NotType depth t) = kernel_reply None (runs.NotType depth t)
+elab_reply elaboration.TooManyMetas = plain_reply (codes "tooManyMetas") refl
+
 move_reply : (r : move.Refusal) → IsReply (body_text (move_refusal r))
 unfolding move_refusal escape_byte
 move_reply (move.Syntax at) = syntax_reply at
@@ -145,16 +169,14 @@ move_reply (move.NoGoal index count) = no_goal_reply index count
 move_reply move.NotYet = plain_reply (codes "notYet") refl
 move_reply (move.NameTaken name) = taken_reply None name
 move_reply move.NotProduct = plain_reply (codes "notProduct") refl
-move_reply (move.Scope fault) = scoping_reply None fault
-move_reply (move.Kernel r) = kernel_reply None r
+move_reply (move.Unsolved at) = unsolved_reply None at
+move_reply (move.Elab r) = elab_reply r
 move_reply move.TooManyMetas = plain_reply (codes "tooManyMetas") refl
-move_reply (move.TooDeep m) = goal_reply (codes "tooDeep") m refl
-move_reply (move.Cycle m) = goal_reply (codes "cycle") m refl
 
 made_reply : (o : move.Outcome State) → SaysReply (made o)
-made_reply (move.Gave s left) = makes_reply s
-made_reply (move.Refused r left) = move_reply r
-made_reply move.OutOfFuel = fuel_reply None
+made_reply (steps.Gave s left) = makes_reply s
+made_reply (steps.Refused r left) = move_reply r
+made_reply steps.OutOfFuel = fuel_reply None
 
 -- ---- the value of each command
 

@@ -1,40 +1,120 @@
 //! `goal.move` and `goal.print`.
 
-ghost use Rattle.std.specs.Prelude.{◌≡◌, ℕ, Some, IfOk};
+ghost use Rattle.std.specs.Prelude.{◌≡◌, ℕ, Some, None, IfOk};
+ghost use Rattle.elaborate.specs.Answers.{ShowsElab};
+ghost use Rattle.elaboration.specs.Refusals.{Unify};
 ghost use Rattle.goal_state.specs.State.{State};
-ghost use Rattle.move_set.specs.Answers.{IsRefused, ShowsKernel};
-ghost use Rattle.move_set.specs.Outcomes.{Outcome};
+ghost use Rattle.move_set.specs.Answers.{IsBeside, IsRefused, elab_shows_terms, unify_shows_terms};
+ghost use Rattle.move_set.specs.Refusals.{Elab, Outcome};
+ghost use Rattle.pattern_unify.specs.Answers.{ShowsUnify};
+ghost use Rattle.reply_text.specs.Showable as showable;
 ghost use Rattle.state_tree.specs.Value.{Gives};
 ghost use Rattle.command_set.specs.Goals as spec;
-ghost use Rattle.command_set.specs.Shown.{IsShownIn, IsShownMove};
+ghost use Rattle.command_set.specs.Shown.{IsShownIn, IsShownUnify, IsShownElab, IsShownMove};
 
 use crate::environment::Environment;
 use crate::goal_start::make_state;
 use crate::proof_state::ProofState;
+use elaborate::ElabFault;
 use kernel_check::KernelFault;
 use ld_terms::Terms;
 use move_set::{MoveFault, Refused, run_move};
+use pattern_unify::UnifyFault;
 use repl_json::Body;
 use reply_text::{
-    Members, fault_members, fuel_members, goal_members, no_goal_members, plain_members,
-    scope_members, syntax_members, taken_members,
+    Members, fault_members, fuel_members, goal_members, no_expected_members, no_goal_members,
+    out_of_scope_members, plain_members, syntax_members, taken_members, unknown_name_members,
+    unsolved_members, wrong_count_members,
 };
 use state_print::{print_state, printed_body};
 use state_tree::Worked;
 use std::alloc::{AllocError, Global};
 
-/// A refusal of the kernel, whose terms stand in a store.
+/// A refusal that shows its terms as the kernel does. They stand in a store.
 fn kernel_members<T: Terms>(
     alloc: Global,
     terms: &Option<T>,
     fault: &KernelFault<T::Handle>,
 ) -> Result<Members, AllocError>
     requires shown { IsShownIn T.holds terms.now fault.now }
-    ensures { (o : Outcome State) (left : ℕ) (t : T) → terms.now ≡ Some t → ShowsKernel (T.holds t) (T.means t) o left fault.now → IfOk result (λ m. spec.made o ≡ spec.says m) }
+    ensures { (t : T) → terms.now ≡ Some t → IfOk result (λ m. m ≡ showable.fault_members (T.means t) None fault.now) }
 {
     match terms {
         Some(terms) => fault_members(alloc, None, terms, fault),
         None => unreachable!(),
+    }
+}
+
+/// Why two terms aren't unified.
+fn unify_members<T: Terms>(
+    alloc: Global,
+    terms: &Option<T>,
+    fault: &UnifyFault<T::Handle>,
+) -> Result<Members, AllocError>
+    requires shown { IsShownUnify T.holds terms.now fault.now }
+    ensures { (o : Outcome State) (left : ℕ) (t : T) → IsBeside t terms.now (unify_shows_terms fault.now) → ShowsUnify (λ r. Elab (Unify r)) (T.holds t) (T.means t) o left fault.now → IfOk result (λ m. spec.made o ≡ spec.says m) }
+{
+    match fault {
+        UnifyFault::Kernel(fault) => kernel_members(alloc, terms, fault),
+        UnifyFault::Mismatch {
+            depth,
+            found,
+            wanted,
+        } => {
+            let fault = KernelFault::Mismatch {
+                depth: *depth,
+                found: *found,
+                wanted: *wanted,
+            };
+            kernel_members(alloc, terms, &fault)
+        }
+        UnifyFault::NotPattern { m } => goal_members(alloc, "notPattern", *m),
+        UnifyFault::Scope { m, level } => out_of_scope_members(alloc, *m, *level),
+        UnifyFault::Cycle { m } => goal_members(alloc, "cycle", *m),
+        UnifyFault::TooDeep { m } => goal_members(alloc, "tooDeep", *m),
+        UnifyFault::TooManyMetas => plain_members(alloc, "tooManyMetas", None),
+        UnifyFault::Fuel => fuel_members(alloc, None),
+        UnifyFault::Memory => Err(AllocError),
+    }
+}
+
+/// Why a text isn't elaborated.
+fn elab_members<T: Terms>(
+    alloc: Global,
+    terms: &Option<T>,
+    fault: &ElabFault<T::Handle>,
+) -> Result<Members, AllocError>
+    requires shown { IsShownElab T.holds terms.now fault.now }
+    ensures { (o : Outcome State) (left : ℕ) (t : T) → IsBeside t terms.now (elab_shows_terms fault.now) → ShowsElab (λ r. Elab r) (T.holds t) (T.means t) o left fault.now → IfOk result (λ m. spec.made o ≡ spec.says m) }
+{
+    match fault {
+        ElabFault::Unify(fault) => unify_members(alloc, terms, fault),
+        ElabFault::UnknownName { at, name } => unknown_name_members(alloc, None, *at, name),
+        ElabFault::WrongCount {
+            at,
+            name,
+            given,
+            wanted,
+        } => wrong_count_members(alloc, None, *at, name, *given, *wanted),
+        ElabFault::NoExpected { at } => no_expected_members(alloc, *at),
+        ElabFault::NotFunction { depth, term, found } => {
+            let fault = KernelFault::NotFunction {
+                depth: *depth,
+                term: *term,
+                found: *found,
+            };
+            kernel_members(alloc, terms, &fault)
+        }
+        ElabFault::NotType { depth, term } => {
+            let fault = KernelFault::NotType {
+                depth: *depth,
+                term: *term,
+            };
+            kernel_members(alloc, terms, &fault)
+        }
+        ElabFault::TooManyMetas => plain_members(alloc, "tooManyMetas", None),
+        ElabFault::Fuel => fuel_members(alloc, None),
+        ElabFault::Memory => Err(AllocError),
     }
 }
 
@@ -53,11 +133,9 @@ fn move_members<T: Terms>(
         MoveFault::NotYet => plain_members(alloc, "notYet", None),
         MoveFault::NameTaken { name } => taken_members(alloc, None, name.as_bytes()),
         MoveFault::NotProduct => plain_members(alloc, "notProduct", None),
-        MoveFault::Scope(fault) => scope_members(alloc, None, fault),
-        MoveFault::Kernel(fault) => kernel_members(alloc, terms, fault),
+        MoveFault::Unsolved { at } => unsolved_members(alloc, None, *at),
+        MoveFault::Elab(fault) => elab_members(alloc, terms, fault),
         MoveFault::TooManyMetas => plain_members(alloc, "tooManyMetas", None),
-        MoveFault::TooDeep { m } => goal_members(alloc, "tooDeep", *m),
-        MoveFault::Cycle { m } => goal_members(alloc, "cycle", *m),
         MoveFault::Fuel => fuel_members(alloc, None),
         MoveFault::Memory => Err(AllocError),
     }

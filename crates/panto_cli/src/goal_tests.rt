@@ -55,7 +55,7 @@ fn refused_moves_change_nothing(rt: HostRuntime) -> Result<(), Fail> {
         goal.move {\"stateId\":1,\"move\":\"intro A\"}\n\
         goal.move {\"stateId\":1,\"move\":\"exact A\"}\n\
         goal.move {\"stateId\":1,\"goalId\":1,\"move\":\"exact A\"}\n\
-        goal.move {\"stateId\":1,\"move\":\"apply A\"}\n\
+        goal.move {\"stateId\":1,\"move\":\"assumption\"}\n\
         goal.move {\"stateId\":1,\"move\":\"intro\"}\n\
         goal.move {\"stateId\":9,\"move\":\"intro x\"}\n\
         goal.start {\"expr\":\"fun (x : *) => x\"}\n\

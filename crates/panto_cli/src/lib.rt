@@ -20,4 +20,6 @@ mod book_tests;
 #[cfg(test)]
 mod goal_tests;
 #[cfg(test)]
+mod move_tests;
+#[cfg(test)]
 mod tests;
