@@ -1,15 +1,15 @@
 #!/usr/bin/env python3
-"""Milliseconds per `goal.move` in a chain of moves on one state: the aim is that a move costs no more than in proportion to the state.
+"""Processor time per `goal.move` in a chain of moves on one state: the aim is that a move costs no more than in proportion to the state.
 
 Usage: bench/unify.py [MOVES]      (default 500; the program has to be built: run `./panto run </dev/null` once)
 
 The theorem is P(z()). By turns `refine both(_, ?, ?)` splits the goal and `exact one(_)` proves the first part; each `_` is a metavariable
 that unification solves, so the state has four metavariables more after two moves, and one or two goals. The last move proves the last goal. Each move is
-written when the reply to the one before has come. The chain is run at a quarter and a half of its length, whole, and at twice its length, one run
-each. Printed: moves, milliseconds per move over the whole chain and over its last tenth, and the peak resident size in KiB. A cost in
-proportion to the state doubles the milliseconds from one line to the next at most.
+written when the reply to the one before has come. The chain is run at a quarter and a half of its length, whole, and at twice its length, one
+run each. Printed: moves, milliseconds of processor time per move over the whole chain and over its last tenth, and the peak resident size in
+KiB. A cost in proportion to the state at most doubles the milliseconds from one line to the next.
 """
-import json, os, subprocess, sys, tempfile, time
+import glob, json, os, subprocess, sys, tempfile
 
 from measure import PANTO, peak_of
 
@@ -22,6 +22,14 @@ prim both (n : N()) (l : P(n)) (r : P(n)) : P(n);
 """
 SPLIT, PROVE = "refine both(_, ?, ?)", "exact one(_)"
 
+def spent(pid):
+    """The processor time of a process so far, in seconds."""
+    total = 0
+    for path in glob.glob(f"/proc/{pid}/task/*/schedstat"):
+        with open(path) as times:
+            total += int(times.read().split()[0])
+    return total / 1e9
+
 def ask(child, command, **fields):
     """The reply to one line."""
     child.stdin.write(f"{command} {json.dumps(fields)}\n".encode())
@@ -29,16 +37,18 @@ def ask(child, command, **fields):
     return json.loads(child.stdout.readline())
 
 def chain(path, moves):
-    """The seconds of each move of a chain, and the peak in KiB."""
+    """The processor time of each move of a chain, in seconds, and the peak in KiB."""
     words = [PANTO, "run", "--book", path, "--entries", str(moves + 1)]
     child = subprocess.Popen(words, stdin=subprocess.PIPE, stdout=subprocess.PIPE)
     reply = ask(child, "goal.start", expr="P(z())")
     times = []
+    before = spent(child.pid)
     for k in range(moves):
         move = SPLIT if k % 2 == 0 and k + 1 < moves else PROVE
-        begun = time.perf_counter()
         reply = ask(child, "goal.move", stateId=reply["stateId"], move=move)
-        times.append(time.perf_counter() - begun)
+        after = spent(child.pid)
+        times.append(after - before)
+        before = after
         assert "error" not in reply, (k, reply)
     assert reply["solved"], reply
     peak = peak_of(child.pid)
