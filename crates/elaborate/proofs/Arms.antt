@@ -1,5 +1,5 @@
 -- What a text elaborates to once the units of its node are paid, from the parts as the program holds them.
-use Rattle.std.proofs.Common.{◌≡◌, ℕ, List, length, map, Option, Some, refl, sym, ap, ap₂, ◌∙◌}
+use Rattle.std.proofs.Common.{◌≡◌, ℕ, List, length, map, Option, sym, ap, ap₂, ◌∙◌}
 use Rattle.std.proofs.lemmas.List.{length-map}
 use Rattle.ld_trees.specs.Term.{Star, Square, Term}
 use Rattle.ld_terms.specs.Items.{item_named}
@@ -11,7 +11,7 @@ use Rattle.term_syntax.specs.declared.surface.Surface.{Surface}
 use Rattle.term_syntax.specs.declared.surface.Shape.TheVariants as shape
 use Rattle.unification.specs.Steps.{Outcome, Gave, Step, go_on}
 use Rattle.elaboration.specs.Refusals.{Refusal, UnknownName}
-use Rattle.elaboration.specs.Elaboration.{Work, Made, Want, Any, AsType, Surroundings, Elaborates, with_goal, with_hole, meet, hole, variable, applied, elaborate}
+use Rattle.elaboration.specs.Elaboration.{Work, Made, Want, Any, AsType, Surroundings, with_goal, with_hole, meet, hole, variable, applied, elaborate}
 use Rattle.elaborate.specs.Steps.{cost, known, paid, wanted_product}
 use Rattle.elaborate.proofs.Equations.{at_star, at_wild, at_asked, at_named, at_const, at_app, at_lam, at_pi}
 use Rattle.elaborate.proofs.Parts.{constant_is, constant_rest, function_is, function_rest, product_is, product_rest}

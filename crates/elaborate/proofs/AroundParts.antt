@@ -1,16 +1,16 @@
 -- What stands round the parts of a node.
-use Rattle.std.proofs.Common.{◌≡◌, ◌≢◌, ℕ, suc, ◌+◌, List, [], ◌∷◌, length, map, Bool, true, false, ◌==◌, cond, Option, Some, None, option_map, refl, sym, ap, ap₂, ◌∙◌, arith}
+use Rattle.std.proofs.Common.{◌≡◌, ◌≢◌, ℕ, suc, List, [], ◌∷◌, length, Bool, true, false, ◌==◌, cond, Some, None, option_map, refl, ap}
 use Rattle.std.proofs.lemmas.Bool.{eqb-true, eq-eqb}
 use Rattle.std.specs.Str.{bytes_eq}
-use Rattle.ld_trees.specs.Term.{Term, Square, Lam, Pi}
+use Rattle.ld_trees.specs.Term.{Term, Square, Lam}
 use Rattle.ld_terms.specs.Items.{item_named}
 use Rattle.ld_terms.specs.declared.globals.Item.{Item}
 use Rattle.term_syntax.specs.Lex.{Text}
 use Rattle.meta_context.specs.Plain.{plain_item, plain_items}
 use Rattle.unification.specs.Steps.{Outcome, Gave, Refused, go_on, pure, demand}
 use Rattle.elaboration.specs.Refusals.{Refusal, WrongCount, NotType}
-use Rattle.elaboration.specs.Elaboration.{Work, Made, made, Want, Any, Of, Surroundings, depth_of, meet, product_or, unified}
-use Rattle.elaborate.specs.Steps.{known, Product, met_domain, abstracted}
+use Rattle.elaboration.specs.Elaboration.{Made, Want, Surroundings, depth_of, meet, product_or}
+use Rattle.elaborate.specs.Steps.{known, abstracted}
 use Rattle.pattern_unify.proofs.Follow.{after}
 
 -- ---- constants

@@ -1,5 +1,5 @@
 -- What a text elaborates to, by the shape at its root: its units are paid, and then comes its node.
-use Rattle.std.proofs.Common.{◌≡◌, ℕ, zero, suc, List, ◌∷◌, [], length, map, Option, Some, refl, ap, sym, ◌∙◌}
+use Rattle.std.proofs.Common.{◌≡◌, ℕ, zero, suc, List, length, map, Option, ap, sym, ◌∙◌}
 use Rattle.std.proofs.lemmas.List.{length-map}
 use Rattle.ld_trees.specs.Term.{Term, Star, Square}
 use Rattle.ld_terms.specs.Items.{item_named}

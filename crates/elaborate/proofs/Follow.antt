@@ -1,5 +1,5 @@
 -- How the answers of elaboration's calls follow from those of their parts.
-use Rattle.std.proofs.Common.{◌≡◌, ℕ, Result, Ok, Err, refl, sym, ap, ◌∙◌, subst}
+use Rattle.std.proofs.Common.{◌≡◌, ℕ, Result, Ok, Err, sym, ap, subst}
 use Rattle.std.specs.Prelude.{IfOk, IsErrAnd}
 use Rattle.ld_trees.specs.Term.{Term}
 use Rattle.ld_terms.specs.declared.halt.Halt.{Halt}
@@ -9,9 +9,9 @@ use Rattle.conversion.specs.Runs.{Refusal as KernelRefusal, Outcome as KernelOut
 use Rattle.kernel_check.specs.declared.fault.KernelFault.{KernelFault}
 use Rattle.kernel_check.specs.declared.fault.KernelFault.TheVariants as kernel
 use Rattle.unification.specs.Refusals as unification
-use Rattle.unification.specs.Steps.{Outcome, Gave, Refused, OutOfFuel, Step, go_on, renamed, ran}
+use Rattle.unification.specs.Steps.{Outcome, Gave, Step, go_on, renamed, ran}
 use Rattle.pattern_unify.proofs.Follow.{more_unify}
-use Rattle.pattern_unify.specs.Answers.{ShowsKernel, ShowsUnify, Answers as UnifyAnswers}
+use Rattle.pattern_unify.specs.Answers.{ShowsKernel, ShowsUnify}
 use Rattle.pattern_unify.specs.declared.fault.UnifyFault.{UnifyFault}
 use Rattle.pattern_unify.specs.declared.fault.UnifyFault.TheVariants as inner
 use Rattle.elaboration.specs.Refusals.{Refusal, Unify, from_unification}

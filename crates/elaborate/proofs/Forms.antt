@@ -1,18 +1,17 @@
 -- What the calls of unification and of the kernel give for those of elaboration, and terms by their roots.
-use Rattle.std.proofs.Common.{◌≡◌, ◌≢◌, ℕ, List, refl, sym, ap, ap₂, ◌∙◌, subst, Option, Some, None}
+use Rattle.std.proofs.Common.{◌≡◌, ◌≢◌, ℕ, List, refl, sym, ap, ◌∙◌, subst, None}
 use Rattle.ld_trees.specs.Term.{Sort, star, square, Term, Srt, Square, Var, App, Lam, Pi, Con}
 use Rattle.ld_terms.specs.declared.globals.Item.{Item}
 use Rattle.meta_context.specs.Plain.{rules_env}
-use Rattle.unification.specs.Refusals as unification
 use Rattle.unification.specs.Refusals.{Plain}
-use Rattle.unification.specs.Steps.{Outcome, Gave, Refused, go_on, pure, renamed}
+use Rattle.unification.specs.Steps.{Gave, Refused, go_on, pure, renamed}
 use Rattle.unification.specs.Unification.{unify}
 use Rattle.pattern_unify.specs.Answers.{ShowsUnify}
 use Rattle.pattern_unify.specs.declared.fault.UnifyFault.{UnifyFault}
 use Rattle.elaboration.specs.Refusals.{Refusal, NotType, from_unification}
 use Rattle.elaboration.specs.Elaboration.{Work, Surroundings, depth_of, with_metas, sort_or, parts_or, product_or, reduced, unified, sort_of}
 use Rattle.elaborate.specs.Faults.{unify_fault}
-use Rattle.elaborate.specs.Steps.{Product, product_of}
+use Rattle.elaborate.specs.Steps.{product_of}
 use Rattle.pattern_unify.proofs.Follow.{after}
 use Rattle.elaborate.proofs.Follow.{Shows, shows_more, unify_shows, renamed_gave}
 

@@ -1,14 +1,13 @@
 -- What the leaves of a text elaborate to, and an entry for a binder.
 use Rattle.std.proofs.Common.{◌≡◌, ℕ, List, length, Option, Some, None, option_map, refl, sym, ap, ap₂, ◌∙◌, subst}
-use Rattle.ld_trees.specs.Term.{Term, Star, Var}
-use Rattle.ld_rules.specs.Environment.{Ctx, type_at}
+use Rattle.ld_trees.specs.Term.{Term, Var}
+use Rattle.ld_rules.specs.Environment.{type_at}
 use Rattle.ld_terms.specs.declared.globals.Local.{Local}
 use Rattle.ld_terms.specs.declared.globals.Item.{Item}
 use Rattle.term_syntax.specs.Lex.{Text}
 use Rattle.meta_context.specs.Plain.{rules_ctx, rules_env}
-use Rattle.unification.specs.Refusals as unification
 use Rattle.unification.specs.Refusals.{Plain}
-use Rattle.unification.specs.Steps.{Outcome, Gave, Refused, Step, go_on, pure, renamed}
+use Rattle.unification.specs.Steps.{Outcome, Gave, Refused, pure, renamed}
 use Rattle.unification.specs.Metavariables.{extended, declared}
 use Rattle.unification.specs.Patterns.{over_all}
 use Rattle.pattern_unify.specs.Answers.{ShowsUnify}

@@ -1,25 +1,21 @@
 -- What is passed along means the same while the store grows, and stays of the store.
-use Rattle.std.proofs.Common.{◌≡◌, ℕ, zero, suc, ◌+◌, ◌<◌, List, [], ◌∷◌, length, map, All, Option, Some, None, option_map, refl, sym, ap, ap₂, ◌∙◌, arith}
+use Rattle.std.proofs.Common.{◌≡◌, ℕ, ◌<◌, List, [], ◌∷◌, length, All, Option, Some, None, option_map, refl, sym, ap, ◌∙◌, arith}
 use Rattle.std.proofs.lemmas.List.{length-map}
 use Rattle.ld_trees.specs.Term.{Term}
-use Rattle.ld_rules.specs.Environment.{Env}
 use Rattle.ld_terms.specs.Views.{Keeps}
 use Rattle.ld_terms.specs.declared.globals.Local.{Local}
 use Rattle.ld_terms.specs.declared.globals.Item.{Item}
 use Rattle.ld_terms.specs.declared.globals.Decl.{Decl}
 use Rattle.term_syntax.specs.Printing.{Names}
 use Rattle.term_syntax.specs.Scoping.{Bound}
-use Rattle.conversion.specs.Globals.{AreGlobalsOf, AreLocals, IsDeclOf, env_of, context_of}
+use Rattle.conversion.specs.Globals.{AreLocals, IsDeclOf, context_of}
 use Rattle.conversion.proofs.Lookups.{globals_kept}
-use Rattle.meta_trees.specs.Whole.{whole}
 use Rattle.meta_context.specs.Entered.{names_of}
-use Rattle.meta_context.specs.Plain.{plain_items, plain_locals, rules_ctx, rules_env}
-use Rattle.meta_context.proofs.PlainItems.{context_again, env_again}
-use Rattle.meta_context.proofs.Stored.{env_is_whole}
+use Rattle.meta_context.specs.Plain.{plain_locals, rules_ctx}
+use Rattle.meta_context.proofs.PlainItems.{context_again}
 use Rattle.goal_state.specs.State.{plain_metas}
 use Rattle.goal_state.proofs.Following.{items_kept, items_held}
-use Rattle.goal_state.proofs.Means.{metas_again, plain_metas_kept}
-use Rattle.unification.specs.Metavariables.{reach}
+use Rattle.goal_state.proofs.Means.{plain_metas_kept}
 use Rattle.elaboration.specs.Elaboration.{Work, Surroundings}
 use Rattle.pattern_unify.proofs.Meanings.{length_again, locals_held, locals_kept, metas_length}
 use Rattle.pattern_unify.specs.Answers.{AreRead}

@@ -1,16 +1,16 @@
 -- A node of a text as one call after another of those that the program makes.
 use Rattle.std.proofs.Common.{◌≡◌, ℕ, suc, ◌+◌, List, [], ◌∷◌, ◌++◌, length, Bool, true, false, ◌==◌, Option, Some, None, refl, sym, ap, ◌∙◌, arith}
 use Rattle.std.proofs.lemmas.List.{length-append}
-use Rattle.ld_trees.specs.Term.{Term, Square, Srt, Var, App, Lam, Pi, Con, Const, Terms, none, ◌▹◌}
+use Rattle.ld_trees.specs.Term.{Term, Square, Srt, Var, App, Lam, Pi, Con, Const, none, ◌▹◌}
 use Rattle.ld_trees.specs.Substitution.{subst_all}
 use Rattle.ld_terms.specs.declared.globals.Local.{Local}
 use Rattle.ld_terms.specs.declared.globals.Item.{Item}
 use Rattle.term_syntax.specs.Lex.{Text}
 use Rattle.term_syntax.specs.declared.surface.Label.{Label}
 use Rattle.meta_context.specs.Plain.{rules_env}
-use Rattle.unification.specs.Steps.{Outcome, Gave, Refused, OutOfFuel, Step, go_on, pure, demand, renamed, ◌>>=◌, ◌>>◌}
+use Rattle.unification.specs.Steps.{Outcome, Gave, Refused, OutOfFuel, Step, go_on, pure, demand, renamed, ◌>>=◌}
 use Rattle.unification.specs.Refusals as unification
-use Rattle.unification.specs.Metavariables.{sorted, extended}
+use Rattle.unification.specs.Metavariables.{sorted}
 use Rattle.elaboration.specs.Refusals.{Refusal, NotType, NotFunction, WrongCount, from_unification}
 use Rattle.elaboration.specs.Elaboration.{Work, Made, made, Want, Any, Of, AsType, Surroundings, depth_of, entry_name, behind, Elaborates, parts_or, product_or, reduced, entered, unified, meet, arguments, constant, applied, abstraction, abstraction_of, function, product}
 use Rattle.elaborate.specs.Steps.{Product, product_of, wanted_product, met_domain, under, abstracted, function_parts, applied_to, known}

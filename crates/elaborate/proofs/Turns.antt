@@ -10,13 +10,13 @@ use Rattle.ld_terms.proofs.Turns.{keeps_both, keeps_all, keeps_map}
 use Rattle.ld_terms.specs.declared.globals.Local.{Local}
 use Rattle.ld_terms.specs.declared.globals.Item.{Item}
 use Rattle.term_syntax.specs.declared.surface.Surface.{Surface}
-use Rattle.conversion.specs.Globals.{AreLocals, IsDeclOf}
+use Rattle.conversion.specs.Globals.{IsDeclOf}
 use Rattle.meta_context.specs.Plain.{plain_locals, plain_local}
 use Rattle.unification.specs.Steps.{Gave, Step, go_on}
 use Rattle.elaboration.specs.Refusals.{Refusal}
-use Rattle.elaboration.specs.Elaboration.{Work, Made, made, Of, Surroundings, arguments, applied, elaborate}
+use Rattle.elaboration.specs.Elaboration.{Work, Made, Of, Surroundings, arguments, applied, elaborate}
 use Rattle.elaborate.specs.Steps.{applied_to}
-use Rattle.elaborate.specs.Standing.{IsRead, IsHeld, IsTypedIn, plain_work, plain_typed}
+use Rattle.elaborate.specs.Standing.{IsRead, IsTypedIn, plain_work, plain_typed}
 use Rattle.elaborate.specs.declared.standing.Work.{Work as StoredWork}
 use Rattle.elaborate.specs.declared.standing.Typed.{Typed}
 use Rattle.elaborate.specs.declared.standing.Here.{Here}

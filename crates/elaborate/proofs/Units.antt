@@ -1,6 +1,6 @@
 -- Units of a node, one by one; and the variables of a context.
-use Rattle.std.proofs.Common.{◌≡◌, ℕ, zero, suc, ◌-◌, ◌<◌, ◌≤◌, refl, sym, ap, ap₂, ◌∙◌, arith}
-use Rattle.ld_trees.specs.Term.{Var, Terms, ◌▹◌}
+use Rattle.std.proofs.Common.{◌≡◌, ℕ, zero, suc, ◌-◌, ◌<◌, ◌≤◌, sym, ap, ap₂, ◌∙◌, arith}
+use Rattle.ld_trees.specs.Term.{Var, ◌▹◌}
 use Rattle.unification.specs.Patterns.{variables_from}
 use Rattle.unification.specs.Steps.{Gave, OutOfFuel}
 use Rattle.elaborate.specs.Steps.{paid}

@@ -1,5 +1,5 @@
 -- What calls of elaboration answer, over a store of terms.
-use Rattle.std.specs.Prelude.{◌≡◌, ℕ, List, Result, Ok, Err}
+use Rattle.std.specs.Prelude.{◌≡◌, ℕ, Result, Ok, Err}
 use Rattle.ld_trees.specs.Term.{Term}
 use Rattle.goal_state.specs.State.{plain_metas}
 use Rattle.unification.specs.Steps.{Outcome, Gave, Refused, OutOfFuel}

@@ -1,5 +1,5 @@
 -- What the values mean that the calls of elaboration pass along, and that they are of a store.
-use Rattle.std.specs.Prelude.{◌≡◌, ℕ, List, All, Option, Some, None}
+use Rattle.std.specs.Prelude.{◌≡◌, List, All, Option, Some, None}
 use Rattle.ld_trees.specs.Term.{Term}
 use Rattle.ld_terms.specs.declared.globals.Item.{Item}
 use Rattle.term_syntax.specs.ReadsBack.{IsContext}

@@ -1,6 +1,6 @@
 -- Words for the private calls of elaboration, each of which stands for one part of its definition.
 use Rattle.std.specs.Prelude.{ℕ, suc, List, length, ◌==◌, Option, Some, None, option_map}
-use Rattle.ld_trees.specs.Term.{Term, Square, Var, App, Lam, Pi, Terms, none, ◌▹◌}
+use Rattle.ld_trees.specs.Term.{Term, Square, Var, App, Lam, Pi, none, ◌▹◌}
 use Rattle.ld_trees.specs.Substitution.{subst_all}
 use Rattle.ld_rules.specs.Environment.{Ctx, type_at}
 use Rattle.ld_terms.specs.declared.globals.Item.{Item}
@@ -10,7 +10,7 @@ use Rattle.term_syntax.specs.declared.surface.Surface.{Surface, fold-Surface}
 use Rattle.term_syntax.specs.declared.surface.Shape.TheOpen.{Shape-F}
 use Rattle.unification.specs.Steps.{pure, refuse, ◌>>=◌, ◌>>◌, demand, spend_each}
 use Rattle.elaboration.specs.Refusals.{UnknownName, WrongCount, NotFunction, NotType, Step}
-use Rattle.elaboration.specs.Elaboration.{Work, Made, made, Want, Any, Of, AsType, Surroundings, depth_of, Elaborates, with_goal, with_hole, parts_or, product_or, reduced, entered, unified, meet}
+use Rattle.elaboration.specs.Elaboration.{Work, Made, made, Want, Any, Of, Surroundings, depth_of, Elaborates, with_goal, with_hole, parts_or, product_or, reduced, entered, unified, meet}
 
 -- ---- units
 

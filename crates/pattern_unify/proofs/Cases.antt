@@ -1,5 +1,5 @@
 -- The steps of unification as its calls take them.
-use Rattle.std.proofs.Common.{◌≡◌, ℕ, zero, suc, ◌-◌, ◌<◌, Bool, true, false, ◌&&◌, List, [], ◌∷◌, Option, Some, None, option_map, Result, Ok, Err, refl, sym, ap, ap₂, ◌∙◌, arith, subst}
+use Rattle.std.proofs.Common.{◌≡◌, ℕ, zero, suc, ◌-◌, ◌<◌, Bool, true, false, ◌&&◌, List, Option, None, Result, Ok, Err, sym, ap, ap₂, ◌∙◌, arith, subst}
 use Rattle.meta_laws.proofs.Lists.{is_false}
 use Rattle.std.specs.Prelude.{IsErrAnd}
 use Rattle.ld_trees.specs.Term.{Term, same}
@@ -10,11 +10,11 @@ use Rattle.ld_terms.specs.declared.globals.Decl.{Decl}
 use Rattle.ld_terms.specs.declared.halt.Halt.{Halt}
 use Rattle.ld_terms.specs.declared.halt.Halt.TheVariants as halt
 use Rattle.conversion.specs.Globals.{env_of}
-use Rattle.conversion.specs.Conversion.{alike, is_defined_at_head, are_twins}
+use Rattle.conversion.specs.Conversion.{alike, is_defined_at_head}
 use Rattle.kernel_check.specs.declared.fault.KernelFault.{KernelFault}
 use Rattle.kernel_check.specs.declared.fault.KernelFault.TheVariants as kernel
 use Rattle.meta_context.specs.Plain.{rules_env}
-use Rattle.unification.specs.Steps.{Outcome, Gave, Refused, OutOfFuel, go_on, pure, refuse, spend, ◌>>◌, choose, or_else, retry}
+use Rattle.unification.specs.Steps.{Gave, Refused, OutOfFuel, pure, refuse, spend, ◌>>◌, choose, or_else, retry}
 use Rattle.unification.specs.Refusals.{Refusal, Kernel, Mismatch, Step, Plain}
 use Rattle.unification.specs.Metavariables.{reach}
 use Rattle.unification.specs.Unification.{unify, unify_each, unify_parts, unify_reduced, part_pairs}

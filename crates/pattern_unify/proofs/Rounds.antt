@@ -1,16 +1,14 @@
 -- The rounds of solving and pruning, and settling, as their calls take them.
-use Rattle.std.proofs.Common.{◌≡◌, ℕ, zero, suc, ◌+◌, ◌-◌, ◌<◌, ◌≤◌, Bool, true, false, List, [], reverse, length, Option, Some, None, is_some, nat_eq, Result, Ok, Err, refl, sym, ap, ◌∙◌, arith, subst, eq-eqb, eqb-true}
+use Rattle.std.proofs.Common.{◌≡◌, ℕ, zero, suc, ◌-◌, ◌≤◌, Bool, true, false, List, [], reverse, length, Some, None, is_some, nat_eq, Result, Ok, Err, refl, sym, ap, ◌∙◌, arith, subst, eq-eqb, eqb-true}
 use Rattle.meta_laws.proofs.Lists.{is_false}
 use Rattle.std.specs.Prelude.{IsErrAnd, slice_get}
 use Rattle.ld_trees.specs.Term.{Term, Meta, Terms}
 use Rattle.ld_trees.specs.Substitution.{rename}
 use Rattle.ld_rules.specs.Environment.{Env}
-use Rattle.ld_terms.specs.declared.globals.Local.{Local}
 use Rattle.ld_terms.specs.declared.globals.Decl.{Decl}
 use Rattle.kernel_check.specs.Inference.{infer}
 use Rattle.meta_context.specs.Plain.{rules_ctx}
 use Rattle.unification.specs.Steps.{Outcome, Gave, Refused, OutOfFuel, go_on, pure, refuse, ◌>>=◌, ◌>>◌, choose, demand, spend_each}
-use Rattle.unification.specs.Steps as steps
 use Rattle.unification.specs.Refusals.{Refusal, Scope, Cycle, Step, kernel_step, Plain}
 use Rattle.unification.specs.Metavariables.{reach, declared, assigned, settled_by}
 use Rattle.unification.specs.Patterns.{holds_only, place_of}

@@ -6,7 +6,7 @@ use Rattle.ld_terms.specs.Views.{Keeps}
 use Rattle.ld_terms.specs.declared.globals.Item.{Item}
 use Rattle.ld_terms.specs.declared.globals.Decl.{Decl}
 use Rattle.conversion.specs.Conversion.{alike}
-use Rattle.conversion.specs.Globals.{AreGlobalsOf, IsDeclOf}
+use Rattle.conversion.specs.Globals.{IsDeclOf}
 use Rattle.meta_context.specs.Plain.{rules_env}
 use Rattle.goal_state.specs.State.{plain_metas}
 use Rattle.unification.specs.Refusals.{Plain}

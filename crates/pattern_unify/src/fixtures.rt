@@ -1,49 +1,14 @@
 //! What the tests share: small terms, `?0 : *` without a context, and `?1 : *` over an entry `A : *`.
 
-ghost use Rattle.std.specs.Prelude.{◌≡◌, [], ◌∷◌, All, IfOk, codes};
+ghost use Rattle.std.specs.Prelude.{◌≡◌, [], ◌∷◌, All, IfOk, Some, codes};
 ghost use Rattle.ld_terms.specs.Views.{Keeps};
-ghost use Rattle.conversion.specs.Globals.{AreGlobalsOf, IsDeclOf};
+ghost use Rattle.conversion.specs.Globals.{IsDeclOf};
 
 use crate::fault::UnifyFault;
 use crate::metavariables::declare_in;
-use crate::spots::is_open;
-use crate::unifying::unify;
-use ld_terms::{Fuel, Local, Name, Terms, View};
+use ld_terms::{Fuel, Item, List, Local, Name, Terms, View};
 use meta_context::{Env, Metas};
 use std::alloc::{AllocError, Global};
-
-/// What a call came to.
-#[derive(Drop)]
-pub enum End {
-    /// Whether `?0`, `?1` and `?2` are declared and without a value then.
-    Open(bool, bool, bool),
-    Mismatch(u32),
-    NotPattern(u32),
-    Scope(u32, u32),
-    Cycle(u32),
-    Fuel,
-    Other,
-}
-
-/// What a call came to, and how many units it left.
-#[derive(Drop)]
-pub struct Outcome {
-    pub end: End,
-    pub left: u64,
-}
-
-/// What these metavariables or this refusal are.
-pub fn end_of<H: Copy>(answer: Result<Metas<H>, UnifyFault<H>>) -> End {
-    match answer {
-        Ok(metas) => End::Open(is_open(&metas, 0), is_open(&metas, 1), is_open(&metas, 2)),
-        Err(UnifyFault::Mismatch { depth, .. }) => End::Mismatch(depth),
-        Err(UnifyFault::NotPattern { m }) => End::NotPattern(m),
-        Err(UnifyFault::Scope { m, level }) => End::Scope(m, level),
-        Err(UnifyFault::Cycle { m }) => End::Cycle(m),
-        Err(UnifyFault::Fuel) => End::Fuel,
-        Err(_) => End::Other,
-    }
-}
 
 /// `*`.
 pub fn star<T: Terms>(alloc: Global, terms: &mut T) -> Result<T::Handle, AllocError>
@@ -164,40 +129,78 @@ pub fn two_goals<T: Terms>(
     with_goal(alloc, terms, &one, star)
 }
 
-/// The outcome of a unification with so many units.
-pub fn unified<T: Terms>(
+/// A term applied to `*`.
+pub fn with_star<T: Terms>(
     alloc: Global,
     terms: &mut T,
-    env: &Env<T::Handle>,
-    metas: &Metas<T::Handle>,
-    units: u64,
-    a: T::Handle,
-    b: T::Handle,
-) -> Outcome
-    requires globals { AreGlobalsOf (T.holds terms.old) env.now metas.now }
-    requires left { T.holds terms.old a }
-    requires right { T.holds terms.old b }
+    f: T::Handle,
+) -> Result<T::Handle, AllocError>
+    requires { T.holds terms.old f }
+    ensures { IfOk result (λ h. T.holds terms.new h) }
 {
-    let mut fuel = Fuel::new(units);
-    let end = end_of(unify(alloc, terms, env, metas, &mut fuel, 1, a, b));
-    Outcome {
-        end,
-        left: fuel.left(),
-    }
+    let argument = star(alloc, terms)?;
+    terms.make(alloc, View::App(f, argument))
 }
 
-/// The outcome of a unification in a context of one entry and the empty environment.
-pub fn unified_in<T: Terms>(
+/// `?1[A]` applied to `*` so many times.
+pub fn spine<T: Terms>(
     alloc: Global,
     terms: &mut T,
-    units: u64,
-    a: T::Handle,
-    b: T::Handle,
-) -> Result<Outcome, UnifyFault<T::Handle>>
-    requires left { T.holds terms.old a }
-    requires right { T.holds terms.old b }
+    arguments: u32,
+) -> Result<T::Handle, AllocError>
+    ensures { IfOk result (λ h. T.holds terms.new h) }
 {
-    let env = Env::new();
-    let metas = two_goals(alloc, terms)?;
-    Ok(unified(alloc, terms, &env, &metas, units, a, b))
+    let mut h = over_last(alloc, terms)?;
+    let mut left = arguments;
+    while left > 0 {
+        left -= 1;
+        h = with_star(alloc, terms, h)?;
+    }
+    Ok(h)
+}
+
+/// The environment of `def K (A : *) := (A : *) -> A : *`.
+pub fn one_item<H: Copy>(alloc: Global, star: H, body: H) -> Result<Env<H>, AllocError>
+    ensures { IfOk result (λ e. e ≡ record { name = codes "K"; params = record { name = codes "A"; ty = star } ∷ []; ty = star; body = Some body } ∷ []) }
+{
+    let item = Item {
+        name: Name::of(alloc, b"K")?,
+        params: List::of(one_entry(alloc, star)?),
+        ty: star,
+        body: Some(body),
+    };
+    let empty = Env::new();
+    empty.push(alloc, item)
+}
+
+/// `K(h)`.
+pub fn applied_constant<T: Terms>(
+    alloc: Global,
+    terms: &mut T,
+    h: T::Handle,
+) -> Result<T::Handle, AllocError>
+    requires { T.holds terms.old h }
+    ensures held { IfOk result (λ h. T.holds terms.new h) }
+    ensures kept { Keeps (T.holds terms.old) (T.means terms.old) (T.holds terms.new) (T.means terms.new) }
+{
+    let mut args = Vec::new(alloc);
+    args.push(h)?;
+    let name = Name::of(alloc, b"K")?;
+    terms.make(alloc, View::Const(&name, &args))
+}
+
+/// `K(h -> g)`.
+pub fn constant_of_arrow<T: Terms>(
+    alloc: Global,
+    terms: &mut T,
+    h: T::Handle,
+    g: T::Handle,
+) -> Result<T::Handle, AllocError>
+    requires left { T.holds terms.old h }
+    requires right { T.holds terms.old g }
+    ensures held { IfOk result (λ h. T.holds terms.new h) }
+    ensures kept { Keeps (T.holds terms.old) (T.means terms.old) (T.holds terms.new) (T.means terms.new) }
+{
+    let arrow = product(alloc, terms, h, g)?;
+    applied_constant(alloc, terms, arrow)
 }

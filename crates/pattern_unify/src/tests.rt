@@ -1,19 +1,91 @@
 //! Each call in the plain store.
 
-ghost use Rattle.std.specs.Prelude.{◌≡◌, [], ◌∷◌, IfOk, Some, codes};
-ghost use Rattle.ld_terms.specs.Views.{Keeps};
+ghost use Rattle.std.specs.Prelude.{IfOk};
+ghost use Rattle.conversion.specs.Globals.{AreGlobalsOf};
 
 use crate::fault::UnifyFault;
 use crate::fixtures::{
-    End, Outcome, all, bare, last, one_entry, over_last, product, star, two_goals, unified,
-    unified_in,
+    all, bare, constant_of_arrow, last, one_item, over_last, product, spine, star, two_goals,
 };
 use crate::metavariables::extend;
 use crate::names::name_at;
-use ld_terms::{Fuel, Item, List, Name, Terms, TreeTerms, View};
+use crate::spots::is_open;
+use crate::unifying::unify;
+use ld_terms::{Fuel, Name, Terms, TreeTerms, View};
 use meta_context::{Env, Metas};
 use std::alloc::{AllocError, Global};
 use std::test::Fail;
+
+/// What a call came to.
+#[derive(Drop)]
+enum End {
+    /// Whether `?0`, `?1` and `?2` are declared and without a value then.
+    Open(bool, bool, bool),
+    Mismatch(u32),
+    NotPattern(u32),
+    Scope(u32, u32),
+    Cycle(u32),
+    Fuel,
+    Other,
+}
+
+/// What a call came to, and how many units it left.
+#[derive(Drop)]
+struct Outcome {
+    end: End,
+    left: u64,
+}
+
+/// What these metavariables or this refusal are.
+fn end_of<H: Copy>(answer: Result<Metas<H>, UnifyFault<H>>) -> End {
+    match answer {
+        Ok(metas) => End::Open(is_open(&metas, 0), is_open(&metas, 1), is_open(&metas, 2)),
+        Err(UnifyFault::Mismatch { depth, .. }) => End::Mismatch(depth),
+        Err(UnifyFault::NotPattern { m }) => End::NotPattern(m),
+        Err(UnifyFault::Scope { m, level }) => End::Scope(m, level),
+        Err(UnifyFault::Cycle { m }) => End::Cycle(m),
+        Err(UnifyFault::Fuel) => End::Fuel,
+        Err(_) => End::Other,
+    }
+}
+
+/// The outcome of a unification with so many units.
+fn unified<T: Terms>(
+    alloc: Global,
+    terms: &mut T,
+    env: &Env<T::Handle>,
+    metas: &Metas<T::Handle>,
+    units: u64,
+    a: T::Handle,
+    b: T::Handle,
+) -> Outcome
+    requires globals { AreGlobalsOf (T.holds terms.old) env.now metas.now }
+    requires left { T.holds terms.old a }
+    requires right { T.holds terms.old b }
+{
+    let mut fuel = Fuel::new(units);
+    let end = end_of(unify(alloc, terms, env, metas, &mut fuel, 1, a, b));
+    Outcome {
+        end,
+        left: fuel.left(),
+    }
+}
+
+/// The outcome of a unification in a context of one entry and the empty environment.
+fn unified_in<T: Terms>(
+    alloc: Global,
+    terms: &mut T,
+    units: u64,
+    a: T::Handle,
+    b: T::Handle,
+) -> Result<Outcome, UnifyFault<T::Handle>>
+    requires left { T.holds terms.old a }
+    requires right { T.holds terms.old b }
+{
+    let env = Env::new();
+    let metas = two_goals(alloc, terms)?;
+    Ok(unified(alloc, terms, &env, &metas, units, a, b))
+}
 
 /// `?0[]` with `(A : *) -> A`.
 fn pattern<T: Terms>(
@@ -90,28 +162,6 @@ fn a_smaller_metavariable_is_made_for_eight_units(rt: HostRuntime) -> Result<(),
     let short = pruned(alloc, &mut terms, 7).ok().ok_or("refused")?;
     assert!(rt; matches!(short.end, End::Fuel));
     Ok(())
-}
-
-/// A term applied to `*`.
-fn with_star<T: Terms>(alloc: Global, terms: &mut T, f: T::Handle) -> Result<T::Handle, AllocError>
-    requires { T.holds terms.old f }
-    ensures { IfOk result (λ h. T.holds terms.new h) }
-{
-    let argument = star(alloc, terms)?;
-    terms.make(alloc, View::App(f, argument))
-}
-
-/// `?1[A]` applied to `*` so many times.
-fn spine<T: Terms>(alloc: Global, terms: &mut T, arguments: u32) -> Result<T::Handle, AllocError>
-    ensures { IfOk result (λ h. T.holds terms.new h) }
-{
-    let mut h = over_last(alloc, terms)?;
-    let mut left = arguments;
-    while left > 0 {
-        left -= 1;
-        h = with_star(alloc, terms, h)?;
-    }
-    Ok(h)
 }
 
 /// `?0[]` with `?1[A]` applied to `*` so many times.
@@ -200,52 +250,6 @@ fn the_type_is_unified_before_a_cycle_is_looked_for(rt: HostRuntime) -> Result<(
     assert!(rt; matches!(mismatch.end, End::Mismatch(0)));
     assert_eq!(rt; mismatch.left, 4);
     Ok(())
-}
-
-/// The environment of `def K (A : *) := (A : *) -> A : *`.
-fn one_item<H: Copy>(alloc: Global, star: H, body: H) -> Result<Env<H>, AllocError>
-    ensures { IfOk result (λ e. e ≡ record { name = codes "K"; params = record { name = codes "A"; ty = star } ∷ []; ty = star; body = Some body } ∷ []) }
-{
-    let item = Item {
-        name: Name::of(alloc, b"K")?,
-        params: List::of(one_entry(alloc, star)?),
-        ty: star,
-        body: Some(body),
-    };
-    let empty = Env::new();
-    empty.push(alloc, item)
-}
-
-/// `K(h)`.
-fn applied_constant<T: Terms>(
-    alloc: Global,
-    terms: &mut T,
-    h: T::Handle,
-) -> Result<T::Handle, AllocError>
-    requires { T.holds terms.old h }
-    ensures held { IfOk result (λ h. T.holds terms.new h) }
-    ensures kept { Keeps (T.holds terms.old) (T.means terms.old) (T.holds terms.new) (T.means terms.new) }
-{
-    let mut args = Vec::new(alloc);
-    args.push(h)?;
-    let name = Name::of(alloc, b"K")?;
-    terms.make(alloc, View::Const(&name, &args))
-}
-
-/// `K(h -> g)`.
-fn constant_of_arrow<T: Terms>(
-    alloc: Global,
-    terms: &mut T,
-    h: T::Handle,
-    g: T::Handle,
-) -> Result<T::Handle, AllocError>
-    requires left { T.holds terms.old h }
-    requires right { T.holds terms.old g }
-    ensures held { IfOk result (λ h. T.holds terms.new h) }
-    ensures kept { Keeps (T.holds terms.old) (T.means terms.old) (T.holds terms.new) (T.means terms.new) }
-{
-    let arrow = product(alloc, terms, h, g)?;
-    applied_constant(alloc, terms, arrow)
 }
 
 /// `K(?0[] -> *)` with `K(P -> P)`, where `P` is `(A : *) -> A`.

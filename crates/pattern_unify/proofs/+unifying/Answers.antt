@@ -1,12 +1,9 @@
-use Rattle.std.proofs.Common.{rules, arith, ◌≡◌, ◌≢◌, ap, ap₂, ◌∙◌, sym, refl, true, false, ℕ, suc, ◌<◌, ◌≤◌, ◌-◌, Some, None, Ok, Err, Bool, List, [], ◌∷◌, ◌++◌, All, length, reverse, subst as transport}
-use Rattle.std.specs.Prelude.{slice_get}
-use Rattle.ld_trees.specs.Term.{Term, Terms}
-use Rattle.ld_terms.specs.declared.globals.Decl.{Decl}
-use Rattle.ld_terms.specs.declared.globals.Local.{Local}
+use Rattle.std.proofs.Common.{rules, arith, ◌≡◌, ◌≢◌, ap, ap₂, ◌∙◌, sym, refl, true, false, ℕ, ◌<◌, ◌≤◌, Some, None, Ok, Err, Bool, List, [], ◌∷◌, ◌++◌, length, reverse, subst as transport}
+use Rattle.ld_trees.specs.Term.{Term}
 use Rattle.ld_terms.proofs.Turns.{keeps_both}
-use Rattle.conversion.specs.Globals.{AreLocals, env_of}
+use Rattle.conversion.specs.Globals.{AreLocals}
 use Rattle.conversion.specs.Answers.{IsAnswer}
-use Rattle.conversion.specs.Conversion.{alike, is_defined_at_head}
+use Rattle.conversion.specs.Conversion.{alike}
 use Rattle.conversion.specs.WeakHead.{whnf}
 use Rattle.conversion.proofs.Lookups.{globals_kept, decl_found_held}
 use Rattle.conversion.proofs.Spines.{all_popped}
@@ -18,7 +15,7 @@ use Rattle.meta_context.proofs.Numbers.{declared_at}
 use Rattle.goal_state.specs.State.{plain_decl, plain_metas}
 use Rattle.goal_state.proofs.Means.{plain_metas_kept, decls_held}
 use Rattle.unification.specs.Steps.{Gave, Refused, go_on, ran, ◌>>◌, spend_each}
-use Rattle.unification.specs.Refusals.{Kernel, Mismatch, NotPattern, Scope, Cycle, Step, Plain, kernel_step}
+use Rattle.unification.specs.Refusals.{Kernel, Mismatch, Scope, Plain, kernel_step}
 use Rattle.unification.specs.Metavariables.{reach, assigned}
 use Rattle.unification.specs.Patterns.{side, holds_only}
 use Rattle.unification.specs.Unification.{unify, unify_each, unify_forms, unify_reduced, unify_parts, part_pairs, settle}
@@ -26,13 +23,13 @@ use Rattle.unification.specs.Pruning.{Nowhere, Outside, Inside, pruned, kept_ent
 use Rattle.pattern_unify.specs.Answers.{Shows, Answers}
 use Rattle.pattern_unify.specs.Faults.{halt_fault}
 use Rattle.pattern_unify.specs.Pairs.{pairs_back, IsPairHeld}
-use Rattle.pattern_unify.specs.Plans.{plan, planned, plain_plan, Parts, SolveFirst, SolveSecond, Refuse}
-use Rattle.pattern_unify.specs.Tries.{tried, IsTried, shrunk, with_term}
+use Rattle.pattern_unify.specs.Plans.{plan, planned, plain_plan}
+use Rattle.pattern_unify.specs.Tries.{tried, IsTried, shrunk}
 use Rattle.pattern_unify.specs.Walks.{variables_of, inverse, IsSpent, plain_spot}
 use Rattle.pattern_unify.specs.declared.spots.Spot.TheVariants as stored
-use Rattle.pattern_unify.proofs.Cases.{defined_read, tried_shows, tried_out, equal_trees, no_unit, spent, not_defined, not_alike, given_up, alike_parts, other_heads}
-use Rattle.pattern_unify.proofs.Follow.{after, residual, shows_more, shows_after, answers_as, answers_after, fails, fails_last, halt_shows}
-use Rattle.pattern_unify.proofs.Meanings.{read_reach, read_kept, read_next, read_ctx, read_length, decl_read, decl_missed, room}
+use Rattle.pattern_unify.proofs.Cases.{defined_read, tried_shows, equal_trees, no_unit, spent, not_defined, not_alike, given_up, alike_parts, other_heads}
+use Rattle.pattern_unify.proofs.Follow.{after, shows_more, answers_as, fails, fails_last, halt_shows}
+use Rattle.pattern_unify.proofs.Meanings.{read_reach, read_kept, read_next, read_length, decl_read, decl_missed, room}
 use Rattle.pattern_unify.proofs.PlanCases.{forms_planned}
 use Rattle.pattern_unify.proofs.Rounds.{spot, on, prunes, goes_out, goes_wrong, outright, outside, inside, occurs_inside, itself, another, no_goal, type_holds, prunes_on, prune_on, spent_each, too_few, settle_missing, settle_found, settle_on}
 use Rattle.pattern_unify.proofs.Turns.{each_turn, each_ends, at_some, at_none}

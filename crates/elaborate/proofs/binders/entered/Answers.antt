@@ -1,4 +1,4 @@
-use Rattle.std.proofs.Common.{◌≡◌, ◌∙◌, ap, sym, refl, subst, length}
+use Rattle.std.proofs.Common.{◌≡◌, ◌∙◌, ap, subst, length}
 use Rattle.std.specs.Option.{option_copied}
 use Rattle.ld_terms.specs.Names.{IsEntryName}
 use Rattle.term_syntax.specs.Lex.{Text}

@@ -1,7 +1,7 @@
-use Rattle.std.proofs.Common.{◌≡◌, ap, refl}
+use Rattle.std.proofs.Common.{ap}
 use Rattle.ld_trees.specs.Term.{Term, ◌▹◌}
 use Rattle.meta_context.specs.Plain.{rules_ctx, rules_env}
-use Rattle.elaboration.specs.Elaboration.{Any, AsType, Of, Made, check}
+use Rattle.elaboration.specs.Elaboration.{Of, Made, check}
 use Rattle.elaboration.specs.Laws.{IsElaborated}
 use Rattle.elaboration.proofs.Sound.{checking_is_sound}
 use Rattle.elaborate.specs.Answers.{plain_made}

@@ -1,13 +1,12 @@
-use Rattle.std.proofs.Common.{◌≡◌, ◌∙◌, [], All, ap, ap₂, sym, refl, subst}
-use Rattle.ld_terms.specs.declared.globals.Local.{Local}
+use Rattle.std.proofs.Common.{◌≡◌, ◌∙◌, [], All, ap, sym, refl, subst}
 use Rattle.conversion.specs.Globals.{IsDeclOf}
 use Rattle.term_text.specs.Scoped.{bound_of}
 use Rattle.meta_context.specs.Entered.{names_of}
 use Rattle.meta_context.specs.Plain.{plain_locals}
 use Rattle.goal_state.specs.State.{plain_metas}
 use Rattle.unification.specs.Steps.{Gave}
-use Rattle.elaboration.specs.Elaboration.{Work, Made, standing, started, elaborate}
-use Rattle.elaborate.specs.Standing.{IsRead, plain_typed, plain_work}
+use Rattle.elaboration.specs.Elaboration.{Made, standing, started, elaborate}
+use Rattle.elaborate.specs.Standing.{plain_work}
 use Rattle.elaborate.proofs.Follow.{fails_last}
 use Rattle.elaborate.proofs.Meanings.{names_again, same_here, same_made, same_work}
 use Rattle.elaborate.proofs.elaborating.elaborated.Goals as goal

@@ -1,7 +1,6 @@
-use Rattle.std.proofs.Common.{◌≡◌, ap, refl}
-use Rattle.ld_trees.specs.Term.{Term, ◌▹◌}
+use Rattle.std.proofs.Common.{refl}
 use Rattle.meta_context.specs.Plain.{rules_ctx, rules_env}
-use Rattle.elaboration.specs.Elaboration.{Any, AsType, Of, Made, synth}
+use Rattle.elaboration.specs.Elaboration.{Any, Made, synth}
 use Rattle.elaboration.specs.Laws.{IsElaborated}
 use Rattle.elaboration.proofs.Sound.{synthesis_is_sound}
 use Rattle.elaborate.specs.Answers.{plain_made}

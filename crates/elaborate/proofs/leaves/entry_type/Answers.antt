@@ -1,4 +1,4 @@
-use Rattle.std.proofs.Common.{◌≡◌, ◌∙◌, ◌+◌, ◌<◌, ap, sym, refl, arith, Some, length}
+use Rattle.std.proofs.Common.{◌∙◌, ◌+◌, ◌<◌, ap, sym, refl, arith, Some}
 use Rattle.ld_trees.specs.Term.{Term, count}
 use Rattle.ld_trees.specs.Substitution.{shift}
 use Rattle.ld_terms.specs.declared.globals.Local.{Local}

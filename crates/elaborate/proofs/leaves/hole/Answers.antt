@@ -1,4 +1,4 @@
-use Rattle.std.proofs.Common.{◌≡◌, ◌∙◌, ap, sym, refl, subst}
+use Rattle.std.proofs.Common.{◌∙◌, ap, sym, refl, subst}
 use Rattle.ld_trees.specs.Term.{Star}
 use Rattle.elaboration.specs.Elaboration.{hole}
 use Rattle.elaborate.specs.Standing.{IsWantIn, plain_want}

@@ -1,4 +1,4 @@
-use Rattle.std.proofs.Common.{◌≡◌, ◌∙◌, ap, ap₂, sym, refl, subst, length, All}
+use Rattle.std.proofs.Common.{◌≡◌, ◌∙◌, ap, sym, subst, All}
 use Rattle.ld_terms.proofs.Turns.{keeps_both}
 use Rattle.conversion.specs.Globals.{IsDeclOf}
 use Rattle.goal_state.specs.State.{plain_metas}

@@ -1,4 +1,4 @@
-use Rattle.std.proofs.Common.{◌≡◌, ◌∙◌}
+use Rattle.std.proofs.Common.{◌∙◌}
 use Rattle.ld_trees.specs.Term.{Star, Square}
 use Rattle.ld_terms.proofs.Turns.{keeps_both}
 use Rattle.elaborate.proofs.Meanings.{held_kept, read_kept, want_held, want_kept}

@@ -1,5 +1,4 @@
-use Rattle.std.proofs.Common.{◌≡◌, ◌∙◌, ap, ap₂, sym, refl, subst, IfSome, Option, Some, None, option_map}
-use Rattle.ld_trees.specs.Term.{Term}
+use Rattle.std.proofs.Common.{◌≡◌, ◌∙◌, ap, ap₂, sym, refl, subst, IfSome, Some, None, option_map}
 use Rattle.term_syntax.specs.Scoping.{index_of, label_text}
 use Rattle.meta_context.specs.Plain.{rules_ctx}
 use Rattle.unification.specs.Steps.{Refused}

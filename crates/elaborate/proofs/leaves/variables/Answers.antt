@@ -1,5 +1,5 @@
-use Rattle.std.proofs.Common.{◌≡◌, ◌-◌, suc, All, map, ◌∙◌, ap, ap₂, sym, subst, arith, [], ◌∷◌, ◌++◌}
-use Rattle.ld_trees.specs.Term.{◌▹◌, Var, Term, Terms}
+use Rattle.std.proofs.Common.{All, map, ◌∙◌, ap, ap₂, sym, subst, arith}
+use Rattle.ld_trees.specs.Term.{◌▹◌, Term, Terms}
 use Rattle.ld_terms.specs.Views.{terms_of}
 use Rattle.ld_terms.proofs.Arguments.{terms_of_end}
 use Rattle.ld_terms.proofs.Turns.{keeps_all, keeps_both, keeps_map}

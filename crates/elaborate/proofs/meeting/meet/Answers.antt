@@ -1,8 +1,8 @@
-use Rattle.std.proofs.Common.{◌≡◌, ◌∙◌, ap, ap₂, sym, refl, subst}
+use Rattle.std.proofs.Common.{◌∙◌, ap, ap₂, sym, refl, subst}
 use Rattle.ld_trees.specs.Term.{Term}
 use Rattle.unification.specs.Steps.{Gave, pure}
 use Rattle.goal_state.proofs.Means.{decls_held}
-use Rattle.elaboration.specs.Elaboration.{Work, Of, made, meet, unified, sort_of}
+use Rattle.elaboration.specs.Elaboration.{made, meet, unified, sort_of}
 use Rattle.elaborate.specs.Standing.{IsWantIn, plain_want, plain_work}
 use Rattle.pattern_unify.proofs.Follow.{next}
 use Rattle.elaborate.proofs.Follow.{fails}

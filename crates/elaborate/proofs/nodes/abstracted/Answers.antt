@@ -1,12 +1,11 @@
-use Rattle.std.proofs.Common.{◌≡◌, ◌∙◌, ◌+◌, ◌<◌, suc, ap, ap₂, sym, refl, subst, arith, length, Option, Some, None, option_map}
+use Rattle.std.proofs.Common.{◌≡◌, ◌∙◌, ◌+◌, ◌<◌, suc, ap, ap₂, sym, refl, subst, arith, length, None, option_map}
 use Rattle.ld_trees.specs.Term.{Lam, Square, Term}
 use Rattle.ld_terms.proofs.Turns.{keeps_both}
-use Rattle.goal_state.proofs.Means.{decls_held}
 use Rattle.unification.specs.Steps.{Gave}
 use Rattle.elaboration.specs.Refusals.{NotType}
-use Rattle.elaboration.specs.Elaboration.{Work, made, meet, product_or}
+use Rattle.elaboration.specs.Elaboration.{made, product_or}
 use Rattle.elaborate.specs.Standing.{MayBeProductIn, plain_product, plain_work}
-use Rattle.elaborate.specs.Steps.{Product, abstracted}
+use Rattle.elaborate.specs.Steps.{abstracted}
 use Rattle.elaborate.proofs.AroundParts.{by_itself_is}
 use Rattle.elaborate.proofs.Follow.{Shows, answers, fails_last, shows_more}
 use Rattle.elaborate.proofs.Meanings.{depth_read, held_kept, read_kept, room, want_held, want_kept, work_kept}

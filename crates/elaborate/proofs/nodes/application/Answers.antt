@@ -1,5 +1,5 @@
-use Rattle.std.proofs.Common.{◌≡◌, ◌∙◌, ◌++◌, ◌∷◌, [], ap, ap₂, map, sym}
-use Rattle.ld_trees.specs.Term.{App, Term, none, ◌▹◌}
+use Rattle.std.proofs.Common.{◌≡◌, ◌∙◌, ◌++◌, ◌∷◌, [], ap, ap₂, map}
+use Rattle.ld_trees.specs.Term.{App, Term}
 use Rattle.ld_trees.specs.Substitution.{subst_all}
 use Rattle.ld_terms.specs.Views.{terms_of}
 use Rattle.ld_terms.proofs.Turns.{keeps_both}

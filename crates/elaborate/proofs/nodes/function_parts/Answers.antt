@@ -1,6 +1,6 @@
 use Rattle.std.proofs.Common.{◌≡◌, ◌∙◌, ap, ap₂, sym, refl, length}
 use Rattle.ld_trees.specs.Term.{Term}
-use Rattle.unification.specs.Steps.{Gave, Refused}
+use Rattle.unification.specs.Steps.{Refused}
 use Rattle.elaboration.specs.Refusals.{NotFunction}
 use Rattle.elaboration.specs.Elaboration.{parts_or, reduced}
 use Rattle.pattern_unify.proofs.Follow.{next}

@@ -1,5 +1,5 @@
-use Rattle.std.proofs.Common.{◌≡◌, ◌≢◌, ◌∙◌, ◌+◌, ap, sym, refl, suc}
-use Rattle.ld_trees.specs.Term.{Square, Term}
+use Rattle.std.proofs.Common.{◌≢◌, ◌∙◌, ◌+◌, ap, sym, refl}
+use Rattle.ld_trees.specs.Term.{Square}
 use Rattle.unification.specs.Steps.{Gave, Refused}
 use Rattle.elaboration.specs.Refusals.{NotType}
 use Rattle.elaborate.proofs.Forms.{has_product, is_kind}

@@ -1,7 +1,5 @@
-use Rattle.std.proofs.Common.{◌≡◌, ◌≢◌, ◌∙◌, ap, ap₂, sym, refl, rules, length, Some, None, option_map}
-use Rattle.ld_trees.specs.Term.{Term}
+use Rattle.std.proofs.Common.{◌≡◌, ◌≢◌, ◌∙◌, ap, sym, rules, length, option_map}
 use Rattle.ld_terms.specs.Items.{item_named}
-use Rattle.ld_terms.specs.declared.globals.Item.{Item}
 use Rattle.meta_context.specs.Plain.{plain_item}
 use Rattle.unification.specs.Steps.{Refused}
 use Rattle.elaboration.specs.Refusals.{UnknownName, WrongCount}

@@ -1,9 +1,8 @@
-use Rattle.std.proofs.Common.{◌≡◌, ◌∙◌, ap, ap₂, sym, refl, subst, Option, Some, None, option_map}
-use Rattle.ld_trees.specs.Term.{Term}
+use Rattle.std.proofs.Common.{◌∙◌, ap, sym, refl, subst, option_map}
 use Rattle.unification.specs.Steps.{Gave, pure}
 use Rattle.elaboration.specs.Elaboration.{Any, Of, unified}
 use Rattle.elaborate.specs.Standing.{MayBeProductIn, plain_product, plain_work}
-use Rattle.elaborate.specs.Steps.{Product, met_domain}
+use Rattle.elaborate.specs.Steps.{met_domain}
 use Rattle.pattern_unify.proofs.Follow.{next}
 use Rattle.elaborate.proofs.Follow.{fails}
 use Rattle.elaborate.proofs.nodes.met_domain.Goals as goal

@@ -1,4 +1,4 @@
-use Rattle.std.proofs.Common.{◌≡◌, ◌∙◌, ap₂}
+use Rattle.std.proofs.Common.{◌∙◌, ap₂}
 use Rattle.ld_trees.specs.Term.{Pi, Term}
 use Rattle.elaborate.proofs.Meanings.{held_kept, read_kept, want_held, want_kept}
 use Rattle.elaborate.proofs.nodes.product.Goals as goal

@@ -1,4 +1,4 @@
-use Rattle.std.proofs.Common.{◌≡◌, ◌∙◌, ap, sym, refl, subst, Option, Some, None}
+use Rattle.std.proofs.Common.{◌∙◌, ap, sym, refl, subst, Option, Some}
 use Rattle.ld_trees.specs.Term.{Term}
 use Rattle.unification.specs.Steps.{Gave, pure}
 use Rattle.elaboration.specs.Elaboration.{reduced}

@@ -1,4 +1,4 @@
-use Rattle.std.proofs.Common.{◌≡◌, ◌∙◌, ℕ, ◌+◌, ◌<◌, ◌≤◌, List, length, map, get_or, All, [], ◌∷◌, ◌++◌, Option, Some, None, option_map, refl, sym, ap, ap₂, arith, rules, subst, true, false}
+use Rattle.std.proofs.Common.{◌≡◌, ◌∙◌, ◌+◌, ◌<◌, length, map, get_or, All, [], ◌∷◌, ◌++◌, Some, option_map, refl, sym, ap, ap₂, arith, rules, subst, true, false}
 use Rattle.std.specs.Option.{option_copied}
 use Rattle.ld_trees.specs.Term.{Term, App, none, ◌▹◌}
 use Rattle.ld_trees.specs.Substitution.{subst_all}
@@ -7,18 +7,17 @@ use Rattle.ld_terms.specs.Items.{item_named}
 use Rattle.term_text.specs.Scoped.{bound_of}
 use Rattle.term_text.proofs.ScopeLaws.{pushed}
 use Rattle.goal_state.proofs.Means.{decls_held}
-use Rattle.ld_terms.proofs.Turns.{keeps_both, keeps_map}
-use Rattle.conversion.specs.Globals.{AreLocals, IsDeclOf}
+use Rattle.ld_terms.proofs.Turns.{keeps_both}
+use Rattle.conversion.specs.Globals.{AreLocals}
 use Rattle.conversion.proofs.Lookups.{item_found_held}
 use Rattle.meta_context.specs.Plain.{plain_item, plain_locals}
 use Rattle.unification.specs.Steps.{Gave, go_on, pure}
-use Rattle.elaboration.specs.Elaboration.{Any, AsType, Of, Made, made, Surroundings, entered, arguments, applied, behind, elaborate}
-use Rattle.elaborate.specs.Standing.{plain_work, plain_typed, plain_want, plain_here, plain_product, pair_trees}
-use Rattle.elaborate.specs.Steps.{cost, paid, known, wanted_product, met_domain, under, abstracted, applied_to, function_parts}
+use Rattle.elaboration.specs.Elaboration.{Any, AsType, Of, made, Surroundings, entered, arguments, applied, behind, elaborate}
+use Rattle.elaborate.specs.Standing.{plain_work, plain_typed, plain_want, plain_product}
+use Rattle.elaborate.specs.Steps.{known, wanted_product, met_domain, under, applied_to, function_parts}
 use Rattle.pattern_unify.proofs.Follow.{next}
-use Rattle.elaborate.proofs.Follow.{Shows, answers, fails, fails_last, shows_more}
-use Rattle.pattern_unify.proofs.Meanings.{locals_held, locals_kept}
-use Rattle.elaborate.proofs.Meanings.{same_here, work_kept, held_kept, held_next, read_kept, read_next, want_kept, want_held, product_kept, product_held}
+use Rattle.elaborate.proofs.Follow.{answers, fails, shows_more}
+use Rattle.elaborate.proofs.Meanings.{same_here, work_kept, held_next, read_kept, read_next, want_kept, want_held, product_kept, product_held}
 use Rattle.elaborate.proofs.Parts.{applied_to_is, argument_rest, body_rest, constant_rest, domain_rest, function_rest, inside_rest, product_end, product_rest}
 use Rattle.elaborate.proofs.Arms.{star_is, wild_is, asked_is, named_is, const_is, app_is, application_rest, lam_is, met, pi_is}
 use Rattle.elaborate.proofs.Turns.{arguments_begin, arguments_next, arguments_turn, arguments_done, applied_begin, applied_next, applied_turn, applied_done}

@@ -1,6 +1,6 @@
-use Rattle.std.proofs.Common.{◌+◌, ◌≤◌, ap, arith}
+use Rattle.std.proofs.Common.{ap, arith}
 use Rattle.ld_trees.specs.Term.{nodes}
-use Rattle.pattern_unify.proofs.UnitsSpent.{each_spent, each_short, spine_begun, spine_not_begun, spine_further, spine_short, spine_ended}
+use Rattle.pattern_unify.proofs.UnitsSpent.{each_spent, each_short, spine_begun, spine_not_begun, spine_further, spine_short}
 use Rattle.pattern_unify.proofs.replacing.+spending.Goals as goal
 
 pub spend_in_all-returns-then-not-spend_occurrences : goal.spend_in_all-returns-then-not-spend_occurrences

@@ -1,10 +1,8 @@
-use Rattle.std.proofs.Common.{◌≡◌, ℕ, List, [], reverse, length, ap, ap₂, ◌∙◌, sym, refl, subst}
+use Rattle.std.proofs.Common.{◌≡◌, ℕ, [], reverse, length, ap, ap₂, ◌∙◌, sym, refl, subst}
 use Rattle.ld_trees.specs.Term.{Term, Meta}
 use Rattle.ld_trees.specs.Substitution.{rename}
-use Rattle.ld_terms.specs.declared.globals.Local.{Local}
 use Rattle.ld_terms.proofs.Turns.{keeps_both}
 use Rattle.conversion.specs.Globals.{AreLocals}
-use Rattle.conversion.proofs.Lookups.{globals_kept}
 use Rattle.meta_context.specs.Plain.{plain_locals, rules_env}
 use Rattle.goal_state.specs.State.{plain_metas}
 use Rattle.goal_state.proofs.Means.{plain_metas_kept, decls_held}

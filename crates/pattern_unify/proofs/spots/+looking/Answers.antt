@@ -1,9 +1,9 @@
-use Rattle.std.proofs.Common.{◌+◌, ◌≤◌, sym, ap, ◌∙◌, arith}
+use Rattle.std.proofs.Common.{sym, ap, ◌∙◌, arith}
 use Rattle.goal_state.specs.State.{plain_metas}
 use Rattle.ld_trees.specs.Term.{nodes}
 use Rattle.unification.specs.Pruning.{or_spot}
 use Rattle.pattern_unify.specs.Walks.{plain_spot, free_spot}
-use Rattle.pattern_unify.proofs.BadVariables.{somewhere, spot_now, spot_later, spot_further, spot_ended}
+use Rattle.pattern_unify.proofs.BadVariables.{somewhere, spot_now, spot_later, spot_further}
 use Rattle.pattern_unify.proofs.spots.+looking.Goals as goal
 
 pub spot_in_all-returns-in_default : goal.spot_in_all-returns-in_default

@@ -1,7 +1,7 @@
-use Rattle.std.proofs.Common.{◌≡◌, ◌+◌, ◌≤◌, Some, None, sym, ap, ◌∙◌, arith}
+use Rattle.std.proofs.Common.{◌≡◌, Some, None, sym, ap, ◌∙◌, arith}
 use Rattle.ld_trees.specs.Term.{nodes}
 use Rattle.pattern_unify.specs.Walks.{bad_variable, or_next}
-use Rattle.pattern_unify.proofs.BadVariables.{bad_now, bad_later, bad_further, bad_ended}
+use Rattle.pattern_unify.proofs.BadVariables.{bad_now, bad_later, bad_further}
 use Rattle.pattern_unify.proofs.spots.+walking.Goals as goal
 
 pub bad_in_all-returns-in-Some : goal.bad_in_all-returns-in-Some
