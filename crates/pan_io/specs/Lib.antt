@@ -11,3 +11,4 @@ pub mod History
 pub mod Put
 pub mod Books
 pub mod Whole
+pub mod Doors

@@ -1,6 +1,8 @@
 //! What no clause says: the adapters of the system, once each, calls that are tried
 //! again, and which calls of the ends in memory fail.
 
+mod links;
+
 use super::*;
 use crate::fault_count::FaultCount;
 use crate::system::{flush_out, read_from, write_to};
