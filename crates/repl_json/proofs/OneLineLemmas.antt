@@ -193,4 +193,3 @@ bad_is_reply (bad.Field name) = record {
   second = refl;
   third = refl;
 }
-bad_is_reply bad.NotYet = record { other = refl; first = refl; second = refl; third = refl }

@@ -1,5 +1,5 @@
 -- The commands of the protocol.
-use Rattle.std.specs.Prelude.{ℕ, Bool, true, false, List, Option, Some, None, codes, if◌then◌else◌}
+use Rattle.std.specs.Prelude.{ℕ, List, Option, Some, None, codes, if◌then◌else◌}
 use Rattle.std.specs.Str.{bytes_eq}
 use Rattle.repl_json.specs.declared.command.Command.{Command}
 use Rattle.repl_json.specs.declared.command.Command.TheVariants.{Echo, EnvAdd, EnvInspect, EnvCatalog, Start, Move, Tries, Continue, Resume, Print, Delete, Reset, Stat}
@@ -24,16 +24,3 @@ command_named word =
     if bytes_eq word (codes "env.catalog") then Some EnvCatalog else
     if bytes_eq word (codes "reset") then Some Reset else
     if bytes_eq word (codes "stat") then Some Stat else goal_command_named word
-
--- those that are built; a line with another one is refused before its fields are looked at
-unfoldable pub is_built : Command → Bool
-is_built Echo = true
-is_built EnvAdd = true
-is_built EnvInspect = true
-is_built EnvCatalog = true
-is_built Start = true
-is_built Move = true
-is_built Print = true
-is_built Reset = true
-is_built Stat = true
-is_built _ = false

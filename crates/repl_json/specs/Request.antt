@@ -1,7 +1,7 @@
 -- The requests of a line that isn't blank and isn't too long.
 use Rattle.std.specs.Prelude.{ℕ, List, [], ◌∷◌, if◌then◌else◌, Option, Some, None, Ok}
 use Rattle.serde_json.specs.Data.{Data, null}
-use Rattle.repl_json.specs.Command.{command_named, is_built}
+use Rattle.repl_json.specs.Command.{command_named}
 use Rattle.repl_json.specs.Fields as field
 use Rattle.repl_json.specs.Json.{object_of}
 use Rattle.repl_json.specs.Table.{Reading, ◌>>=◌, need, refused, all_or_refused, asked}
@@ -17,7 +17,7 @@ longest_line = 65536
 -- 4. the command is none of the protocol; 5. a field is refused
 abbrev pub by_command : Data → Option Command → List Request
 by_command payload None = refused bad.Command ∷ []
-by_command payload (Some command) = if is_built command then asked command payload else refused bad.NotYet ∷ []
+by_command payload (Some command) = asked command payload
 
 unfoldable pub requests_by : List ℕ → Data → List Request
 requests_by word payload = by_command payload (command_named word)

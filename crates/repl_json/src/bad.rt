@@ -30,7 +30,6 @@ fn bad_front(alloc: Global, bad: &Bad) -> Result<Vec<u8>, AllocError>
             text.extend_from_slice(b",\"seq\":")?;
             Ok(text)
         }
-        Bad::NotYet => Vec::from_slice(alloc, b"{\"error\":\"notYet\",\"seq\":"),
     }
 }
 

@@ -1,7 +1,7 @@
 //! The commands of the protocol.
 
 ghost use Rattle.std.specs.Prelude.{◌≡◌};
-ghost use Rattle.repl_json.specs.Command.{command_named, goal_command_named, is_built};
+ghost use Rattle.repl_json.specs.Command.{command_named, goal_command_named};
 
 /// A command of the protocol.
 #[derive(Debug, Clone, Copy, PartialEq, Eq, Drop)]
@@ -87,23 +87,4 @@ fn goal_command_named(word: &[u8]) -> Option<Command>
         return Some(Command::Delete);
     }
     None
-}
-
-/// Whether a command is built.
-#[tactic(auto, unfolding(crate::specs::Command::is_built))]
-pub fn is_built(command: Command) -> bool
-    ensures { result ≡ is_built command }
-{
-    match command {
-        Command::Echo
-        | Command::EnvAdd
-        | Command::EnvInspect
-        | Command::EnvCatalog
-        | Command::Start
-        | Command::Move
-        | Command::Print
-        | Command::Reset
-        | Command::Stat => true,
-        _ => false,
-    }
 }

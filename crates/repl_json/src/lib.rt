@@ -28,6 +28,7 @@ pub use finish::finish_line;
 pub use laws::{
     bad_bodies_are_replies, memory_is_memory_line, only_memory_is_memory_line, replies_are_lines,
 };
+pub use payload::value_of;
 pub use quote::push_quoted;
 pub use read::read_request;
 pub use reply::{Body, Line};

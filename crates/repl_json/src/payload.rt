@@ -12,7 +12,10 @@ use serde_json::{Category, Value};
 use std::alloc::{AllocError, Global};
 
 /// The JSON value that the bytes are, or `None` exactly where they are none.
-fn value_of(alloc: Global, bytes: &[u8]) -> Result<Option<Value>, AllocError>
+///
+/// # Errors
+/// `AllocError` for want of memory alone.
+pub fn value_of(alloc: Global, bytes: &[u8]) -> Result<Option<Value>, AllocError>
     ensures { IfOk result (λ o. option_map view o ≡ data_of bytes.now) }
 {
     match Value::from_slice(alloc, bytes) {

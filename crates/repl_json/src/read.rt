@@ -6,7 +6,7 @@ ghost use Rattle.repl_json.specs.Request.{longest_line, of_object, of_payload, p
 ghost use Rattle.repl_json.specs.Words.{is_blank_line};
 
 use crate::asked::{asked, one, refuse, refuse_field};
-use crate::command::{command_named, is_built};
+use crate::command::command_named;
 use crate::field::text;
 use crate::payload::{object_of, payload_in};
 use crate::request::{Bad, Request};
@@ -23,9 +23,6 @@ fn requests_by(alloc: Global, word: &[u8], payload: &Value) -> Result<List<Reque
     let Some(command) = command_named(word) else {
         return one(alloc, refuse(Bad::Command));
     };
-    if !is_built(command) {
-        return one(alloc, refuse(Bad::NotYet));
-    }
     asked(alloc, command, payload)
 }
 

@@ -13,8 +13,6 @@ pub enum Bad {
     Command,
     /// The field of this name is missing, of another kind or out of its range.
     Field { name: Bytes },
-    /// The command is one of the protocol that isn't built yet.
-    NotYet,
 }
 
 /// What a request asks for. Fields that a line leaves out stand with their defaults.

@@ -3,11 +3,8 @@
 ghost use Rattle.std.specs.Prelude.{None};
 
 use super::*;
-use crate::asked::asked;
-use crate::command::Command;
 use ld_terms::List;
 use pan_io::MemorySink;
-use serde_json::Value;
 use std::alloc::{AllocError, Global};
 use std::test::Fail;
 
@@ -36,7 +33,6 @@ fn lines_that_are_refused(rt: HostRuntime) -> Result<(), Fail> {
     let alloc = rt.alloc();
     let json: &[u8] = b"{\"error\":\"json\",\"seq\":";
     let command: &[u8] = b"{\"error\":\"command\",\"seq\":";
-    let not_yet: &[u8] = b"{\"error\":\"notYet\",\"seq\":";
     let rows: [(&[u8], &[u8]); 22] = [
         (b"nope", command),
         (b"nope {}", command),
@@ -57,7 +53,10 @@ fn lines_that_are_refused(rt: HostRuntime) -> Result<(), Fail> {
             b"{\"error\":\"field\",\"field\":\"payload\",\"seq\":",
         ),
         (b"{\"cmd\":\"nope\",\"payload\":{}}", command),
-        (b"goal.resume {\"stateId\":-1}", not_yet),
+        (
+            b"goal.tries {\"stateId\":-1}",
+            b"{\"error\":\"field\",\"field\":\"stateId\",\"seq\":",
+        ),
         (
             b"stat {\"after\":1.5}",
             b"{\"error\":\"field\",\"field\":\"after\",\"seq\":",
@@ -163,20 +162,22 @@ fn lines_that_echo(rt: HostRuntime) -> Result<(), Fail> {
 }
 
 #[test]
-fn commands_that_are_not_built(rt: HostRuntime) -> Result<(), Fail> {
+fn lines_with_lists(rt: HostRuntime) -> Result<(), Fail> {
     let alloc = rt.alloc();
-    let tries = Value::from_str(
-        alloc,
-        "{\"stateId\":5,\"tries\":[{\"move\":\"a\"},{\"move\":\"b\",\"goalId\":1}]}",
-    )
-    .map_err(|_| AllocError)?;
-    let requests = asked(alloc, Command::Tries, &tries)?;
+    let line =
+        b"goal.tries {\"after\":4,\"stateId\":5,\"tries\":[{\"move\":\"a\"},{\"move\":\"b\",\"goalId\":1}]}";
+    let requests = read(alloc, line)?;
     let [_, second] = requests.as_slice() else {
         return Err(Fail::new("there are two tries"));
     };
+    let Ask::Move { goal, text, .. } = &second.ask else {
+        return Err(Fail::new("another request"));
+    };
+    assert_eq!(rt; second.after, 4);
     assert_eq!(rt; second.ask.one_named(), Some(5));
-    let goals = Value::from_str(alloc, "{\"stateId\":5,\"goals\":[2,1]}").map_err(|_| AllocError)?;
-    let requests = asked(alloc, Command::Resume, &goals)?;
+    assert_eq!(rt; *goal, 1);
+    assert_eq!(rt; text.as_slice(), b"b".as_slice());
+    let requests = read(alloc, b"goal.resume {\"stateId\":5,\"goals\":[2,1]}")?;
     let [request] = requests.as_slice() else {
         return Err(Fail::new("there is one request"));
     };

@@ -30,5 +30,4 @@ fn refusals_compute()
     ensures json { body_text (bad_body bad.Json) 4 None ≡ codes "{\"error\":\"json\",\"seq\":4}\n" }
     ensures command { body_text (bad_body bad.Command) 4 None ≡ codes "{\"error\":\"command\",\"seq\":4}\n" }
     ensures field { body_text (bad_body (bad.Field (codes "after"))) 4 None ≡ codes "{\"error\":\"field\",\"field\":\"after\",\"seq\":4}\n" }
-    ensures not_yet { body_text (bad_body bad.NotYet) 4 None ≡ codes "{\"error\":\"notYet\",\"seq\":4}\n" }
 {}

@@ -13,7 +13,7 @@ ghost use Rattle.repl_json.specs.declared.request.Ask.TheVariants as ask;
 ghost use Rattle.repl_json.specs.declared.request.Bad.TheVariants as bad;
 
 /// Lines of a command's word alone.
-#[tactic(auto, unfolding(crate::specs::Request::requests_of, crate::specs::Request::requests_by, crate::specs::Command::command_named, crate::specs::Command::goal_command_named, crate::specs::Command::is_built, crate::specs::Table::asked, crate::specs::Field::value_in, crate::specs::Table::env_add))]
+#[tactic(auto, unfolding(crate::specs::Request::requests_of, crate::specs::Request::requests_by, crate::specs::Command::command_named, crate::specs::Command::goal_command_named, crate::specs::Table::asked, crate::specs::Field::value_in, crate::specs::Table::env_add, crate::specs::Table::try_all))]
 fn words_compute()
     ensures stat { requests_of (codes "stat") ≡ with_after 0 (ask.Stat) ∷ [] }
     ensures blanks { requests_of (codes " \t reset \t ") ≡ with_after 0 (ask.Reset) ∷ [] }
@@ -23,11 +23,11 @@ fn words_compute()
     ensures return_is_no_blank { requests_of (codes "stat\r") ≡ refused bad.Command ∷ [] }
     ensures no_text { requests_of (255 ∷ 0 ∷ []) ≡ refused bad.Command ∷ [] }
     ensures no_field { requests_of (codes "env.add") ≡ refused (bad.Field (codes "text")) ∷ [] }
-    ensures not_yet { requests_of (codes "goal.resume") ≡ refused bad.NotYet ∷ [] }
+    ensures no_state { requests_of (codes "goal.tries") ≡ refused (bad.Field (codes "stateId")) ∷ [] }
 {}
 
 /// The refusals, each before those that stand behind it.
-#[tactic(auto, unfolding(crate::specs::Request::requests_of, crate::specs::Request::requests_by, crate::specs::Command::command_named, crate::specs::Command::goal_command_named, crate::specs::Command::is_built, crate::specs::Table::asked, crate::specs::Field::value_in, crate::specs::Table::echo))]
+#[tactic(auto, unfolding(crate::specs::Request::requests_of, crate::specs::Request::requests_by, crate::specs::Command::command_named, crate::specs::Command::goal_command_named, crate::specs::Table::asked, crate::specs::Field::value_in, crate::specs::Table::echo))]
 fn refusals_compute()
     ensures json { of_payload (codes "nope") None ≡ refused bad.Json ∷ [] }
     ensures json_first { of_object None ≡ refused bad.Json ∷ [] }
@@ -38,7 +38,6 @@ fn refusals_compute()
     ensures payload { of_object (Some (fields ((codes "cmd", string (codes "nope")) ∷ (codes "payload", whole 1) ∷ []))) ≡ refused (bad.Field (codes "payload")) ∷ [] }
     ensures command { of_payload (codes "nope") (Some (fields [])) ≡ refused bad.Command ∷ [] }
     ensures command_before_fields { of_payload (codes "nope") (Some (fields ((codes "after", string (codes "1")) ∷ []))) ≡ refused bad.Command ∷ [] }
-    ensures not_yet_before_fields { of_payload (codes "goal.continue") (Some (fields ((codes "after", string (codes "1")) ∷ []))) ≡ refused bad.NotYet ∷ [] }
     ensures field { of_payload (codes "expr.echo") (Some (fields [])) ≡ refused (bad.Field (codes "expr")) ∷ [] }
     ensures object_line { of_object (Some (fields ((codes "cmd", string (codes "stat")) ∷ []))) ≡ with_after 0 (ask.Stat) ∷ [] }
     ensures payload_null { of_object (Some (fields ((codes "after", whole 7) ∷ (codes "cmd", string (codes "stat")) ∷ (codes "payload", null) ∷ []))) ≡ with_after 0 (ask.Stat) ∷ [] }
@@ -46,7 +45,7 @@ fn refusals_compute()
 {}
 
 /// The fields of `expr.echo`: defaults, null, ranges and order.
-#[tactic(auto, unfolding(crate::specs::Request::requests_of, crate::specs::Request::requests_by, crate::specs::Command::command_named, crate::specs::Command::goal_command_named, crate::specs::Command::is_built, crate::specs::Table::asked, crate::specs::Field::value_in, crate::specs::Table::echo))]
+#[tactic(auto, unfolding(crate::specs::Request::requests_of, crate::specs::Request::requests_by, crate::specs::Command::command_named, crate::specs::Command::goal_command_named, crate::specs::Table::asked, crate::specs::Field::value_in, crate::specs::Table::echo))]
 fn fields_compute()
     ensures defaults { of_payload (codes "expr.echo") (Some (fields ((codes "expr", string (codes "*")) ∷ []))) ≡ with_after 0 (ask.Echo 0 (codes "*") 100000) ∷ [] }
     ensures given { of_payload (codes "expr.echo") (Some (fields ((codes "after", whole 4) ∷ (codes "envId", whole 3) ∷ (codes "expr", string (codes "*")) ∷ (codes "fuel", whole 2) ∷ []))) ≡ with_after 4 (ask.Echo 3 (codes "*") 2) ∷ [] }
@@ -65,7 +64,7 @@ fn fields_compute()
 {}
 
 /// A number with a point or an exponent is none of a field, whatever its value.
-#[tactic(auto, unfolding(crate::specs::Request::requests_of, crate::specs::Request::requests_by, crate::specs::Command::command_named, crate::specs::Command::goal_command_named, crate::specs::Command::is_built, crate::specs::Table::asked, crate::specs::Field::value_in, crate::specs::Table::echo, crate::specs::Table::env_catalog))]
+#[tactic(auto, unfolding(crate::specs::Request::requests_of, crate::specs::Request::requests_by, crate::specs::Command::command_named, crate::specs::Command::goal_command_named, crate::specs::Table::asked, crate::specs::Field::value_in, crate::specs::Table::echo, crate::specs::Table::env_catalog))]
 fn floats_compute()
     ensures stat { (x : Float) → of_payload (codes "stat") (Some (fields ((codes "after", number (float x)) ∷ []))) ≡ refused (bad.Field (codes "after")) ∷ [] }
     ensures last { (x : Float) → of_payload (codes "expr.echo") (Some (fields ((codes "after", number (float x)) ∷ (codes "expr", string (codes "*")) ∷ []))) ≡ refused (bad.Field (codes "after")) ∷ [] }
@@ -73,7 +72,7 @@ fn floats_compute()
 {}
 
 /// The commands on environments, with every field and with none.
-#[tactic(auto, unfolding(crate::specs::Request::requests_of, crate::specs::Request::requests_by, crate::specs::Command::command_named, crate::specs::Command::goal_command_named, crate::specs::Command::is_built, crate::specs::Table::asked, crate::specs::Field::value_in, crate::specs::Table::env_add, crate::specs::Table::env_inspect, crate::specs::Table::env_catalog, crate::specs::Table::start))]
+#[tactic(auto, unfolding(crate::specs::Request::requests_of, crate::specs::Request::requests_by, crate::specs::Command::command_named, crate::specs::Command::goal_command_named, crate::specs::Table::asked, crate::specs::Field::value_in, crate::specs::Table::env_add, crate::specs::Table::env_inspect, crate::specs::Table::env_catalog, crate::specs::Table::start))]
 fn built_commands_compute()
     ensures add { asked command.EnvAdd (fields ((codes "after", whole 4) ∷ (codes "envId", whole 3) ∷ (codes "fuel", whole 2) ∷ (codes "text", string (codes "a")) ∷ [])) ≡ with_after 4 (ask.EnvAdd 3 (codes "a") 2) ∷ [] }
     ensures add_defaults { asked command.EnvAdd (fields ((codes "text", string (codes "a")) ∷ [])) ≡ with_after 0 (ask.EnvAdd 0 (codes "a") 100000) ∷ [] }
@@ -91,7 +90,7 @@ fn built_commands_compute()
 {}
 
 /// The commands on states, with every field and with none.
-#[tactic(auto, unfolding(crate::specs::Request::requests_of, crate::specs::Request::requests_by, crate::specs::Command::command_named, crate::specs::Command::goal_command_named, crate::specs::Command::is_built, crate::specs::Table::asked, crate::specs::Field::value_in, crate::specs::Table::move_on, crate::specs::Table::continue_with, crate::specs::Table::resume, crate::specs::Table::print, crate::specs::Table::delete))]
+#[tactic(auto, unfolding(crate::specs::Request::requests_of, crate::specs::Request::requests_by, crate::specs::Command::command_named, crate::specs::Command::goal_command_named, crate::specs::Table::asked, crate::specs::Field::value_in, crate::specs::Table::move_on, crate::specs::Table::continue_with, crate::specs::Table::resume, crate::specs::Table::print, crate::specs::Table::delete))]
 fn state_commands_compute()
     ensures move_all { asked command.Move (fields ((codes "after", whole 4) ∷ (codes "auto", boolean false) ∷ (codes "fuel", whole 2) ∷ (codes "goalId", whole 1) ∷ (codes "move", string (codes "a")) ∷ (codes "stateId", whole 5) ∷ [])) ≡ with_after 4 (ask.Move 5 1 (codes "a") 2 false) ∷ [] }
     ensures move_defaults { asked command.Move (fields ((codes "move", string (codes "a")) ∷ (codes "stateId", whole 5) ∷ [])) ≡ with_after 0 (ask.Move 5 0 (codes "a") 100000 true) ∷ [] }
@@ -111,8 +110,9 @@ fn state_commands_compute()
 {}
 
 /// The tries of `goal.tries`: each is a request.
-#[tactic(auto, unfolding(crate::specs::Request::requests_of, crate::specs::Request::requests_by, crate::specs::Command::command_named, crate::specs::Command::goal_command_named, crate::specs::Command::is_built, crate::specs::Table::asked, crate::specs::Field::value_in, crate::specs::Table::try_all, crate::specs::Fields::try_of))]
+#[tactic(auto, unfolding(crate::specs::Request::requests_of, crate::specs::Request::requests_by, crate::specs::Command::command_named, crate::specs::Command::goal_command_named, crate::specs::Table::asked, crate::specs::Field::value_in, crate::specs::Table::try_all, crate::specs::Fields::try_of))]
 fn tries_compute()
+    ensures line { of_payload (codes "goal.tries") (Some (fields ((codes "after", whole 4) ∷ (codes "stateId", whole 5) ∷ (codes "tries", list (fields ((codes "move", string (codes "a")) ∷ []) ∷ fields ((codes "move", string (codes "b")) ∷ []) ∷ [])) ∷ []))) ≡ with_after 4 (ask.Move 5 0 (codes "a") 100000 true) ∷ with_after 4 (ask.Move 5 0 (codes "b") 100000 true) ∷ [] }
     ensures two { asked command.Tries (fields ((codes "after", whole 4) ∷ (codes "stateId", whole 5) ∷ (codes "tries", list (fields ((codes "auto", boolean false) ∷ (codes "fuel", whole 2) ∷ (codes "goalId", whole 1) ∷ (codes "move", string (codes "a")) ∷ []) ∷ fields ((codes "move", string (codes "a")) ∷ []) ∷ [])) ∷ [])) ≡ with_after 4 (ask.Move 5 1 (codes "a") 2 false) ∷ with_after 4 (ask.Move 5 0 (codes "a") 100000 true) ∷ [] }
     ensures nulls { asked command.Tries (fields ((codes "stateId", whole 5) ∷ (codes "tries", list (fields ((codes "auto", null) ∷ (codes "fuel", null) ∷ (codes "goalId", null) ∷ (codes "move", string (codes "a")) ∷ []) ∷ [])) ∷ [])) ≡ with_after 0 (ask.Move 5 0 (codes "a") 100000 true) ∷ [] }
     ensures ignored { asked command.Tries (fields ((codes "stateId", whole 5) ∷ (codes "tries", list (fields ((codes "after", whole 9) ∷ (codes "move", string (codes "a")) ∷ (codes "stateId", whole 9) ∷ []) ∷ [])) ∷ [])) ≡ with_after 0 (ask.Move 5 0 (codes "a") 100000 true) ∷ [] }

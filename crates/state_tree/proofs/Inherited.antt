@@ -149,7 +149,8 @@ module _ {E S M : Type 0} (P : E → Type 0) (Q : M → S → Type 0) where
         let ask = e.request.ask in
         else_holds t ms (mark ask (mark_named ms (one_named ask))) (early_case t e.request or memory_case t e.gave) (V ask (found_in t ask)) h
         (same_or t _ _ (same_early t e.request) (same_memory t e.gave))
-        (inherited ask (found_in t ask) (mark_named ms (one_named ask)) (has_env t (env_named ask) h.each_env) (has_state t ms (one_named ask) h.each_state))
+        (inherited ask (found_in t ask) (mark_named ms (one_named ask)) (mark_named ms (two_named ask)) (has_env t (env_named ask) h.each_env)
+        (has_state t ms (one_named ask) h.each_state) (has_state t ms (two_named ask) h.each_state))
 
     all_hold : (t : PlainTree E S) (ms : List M) (es : List Entry) → Hold t.envs t.states ms → Hold (after_all V t es).envs (after_all V t es).states (marks_in V mark t ms es)
     all_hold t ms [] h = h

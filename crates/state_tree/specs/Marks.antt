@@ -65,6 +65,7 @@ module _ {E S M : Type 0} (P : E → Type 0) (Q : M → S → Type 0) where
   Makes m (MakesEnv env body) = P env
   Makes m (MakesState state body) = Q m state
 
-  -- what the value of a command makes has it, where what the command was done on has it
+  -- what the value of a command makes has it, where what the command was done on has it: an environment, and a state with the mark that
+  -- the new one's depends on, and a second state with a mark of its own
   abbrev pub IsInherited : (Ask → Found E S → Value E S) → (Ask → Option M → M) → Type 0
-  IsInherited V mark = (ask : Ask) (found : Found E S) (m : Option M) → HasIt found.env → IsIt found.one m → Makes (mark ask m) (V ask found)
+  IsInherited V mark = (ask : Ask) (found : Found E S) (m n : Option M) → HasIt found.env → IsIt found.one m → IsIt found.two n → Makes (mark ask m) (V ask found)

@@ -88,6 +88,13 @@ impl<W: Work> Tree<W> {
         self.holdings.journal.len() as u64
     }
 
+    /// The number of states ever made, live or not. Takes no memory.
+    pub fn states(&self) -> u64
+        ensures states { result ≡ length (tree_of W.value self.now).states }
+    {
+        self.holdings.states.len() as u64
+    }
+
     /// The entries, in order. Takes no memory.
     pub fn into_journal(self) -> Vec<Entry>
         ensures journal { result.items ≡ self.journal }

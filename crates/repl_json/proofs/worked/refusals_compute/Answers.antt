@@ -19,7 +19,3 @@ returns-clause-command c = refl
 pub returns-clause-field : goal.returns-clause-field
 unfolding bad_body digits escape_byte
 returns-clause-field c = refl
-
-pub returns-clause-not_yet : goal.returns-clause-not_yet
-unfolding bad_body digits
-returns-clause-not_yet c = refl
