@@ -1,4 +1,5 @@
 pub mod Turns
+pub mod Needs
 pub mod Shown
 pub mod Lines
 pub mod States

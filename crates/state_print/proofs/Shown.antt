@@ -1,13 +1,10 @@
 -- What is shown of a state: each active goal, and whether it is solved.
-use Rattle.std.proofs.Common.{◌≡◌, ◌↔◌, ℕ, zero, suc, ◌+◌, List, [], ◌∷◌, ◌++◌, length, All, Bool, true, false, IsTrue, Option, Some, None, option_map, slice_get, refl, sym, ap, ◌∙◌, arith}
-use Rattle.std.specs.Prelude.{flat_map}
+use Rattle.std.proofs.Common.{◌≡◌, ◌↔◌, ℕ, suc, List, [], ◌∷◌, length, All, Bool, true, false, IsTrue, Option, Some, None, slice_get, refl, sym, arith}
 use Rattle.std.proofs.lemmas.List.{length-append}
 use Rattle.ld_trees.specs.Term.{Term}
 use Rattle.ld_terms.specs.declared.globals.Decl.{Decl}
 use Rattle.meta_context.specs.Declaring.{IsOpen}
-use Rattle.goal_state.specs.State.{State, open_goals, IsSolved, plain_decl, plain_metas, HasRoot, root_type, IsLegalState}
-use Rattle.goal_state.proofs.Lists.{get_map}
-use Rattle.reply_text.specs.Shown.{term_json}
+use Rattle.goal_state.specs.State.{State, open_goals, IsSolved, plain_metas, HasRoot}
 use Rattle.state_print.specs.Pieces.{found_goal, goal_texts, is_none_of, is_solved}
 use Rattle.state_print.specs.Laws.{EachGoalIsShown, SolvedIsShown}
 

@@ -1,16 +1,15 @@
 -- The pieces of a stored state.
-use Rattle.std.proofs.Common.{◌≡◌, ◌↔◌, ℕ, zero, List, [], ◌∷◌, All, Bool, true, false, IsTrue, Option, Some, None, slice_get, if◌then◌else◌, refl, sym, ap, ap₂, ◌∙◌, subst, arith}
+use Rattle.std.proofs.Common.{◌≡◌, ◌↔◌, ℕ, List, [], ◌∷◌, All, Bool, true, false, IsTrue, Option, Some, None, slice_get, if◌then◌else◌, sym, ap, ◌∙◌, subst, arith}
 use Rattle.std.proofs.lemmas.Option.{same_Some}
 use Rattle.ld_trees.specs.Term.{Term}
 use Rattle.ld_terms.specs.Views.{Keeps}
 use Rattle.ld_terms.specs.declared.globals.Decl.{Decl}
 use Rattle.conversion.specs.Globals.{IsDeclOf}
-use Rattle.goal_state.specs.State.{State, IsSolved, plain_metas, root_type, root_value}
+use Rattle.goal_state.specs.State.{State, IsSolved, root_type, root_value}
 use Rattle.goal_state.specs.StoredState.{StoredState, plain_state, IsKeptState}
-use Rattle.reply_text.specs.Context.{array_text}
 use Rattle.reply_text.specs.Shown.{term_json}
-use Rattle.state_print.specs.Pieces.{goal_texts, goals_json, is_solved, proof_json, theorem_json}
-use Rattle.goal_state.proofs.Means.{plain_metas_kept, decls_held}
+use Rattle.state_print.specs.Pieces.{is_solved, proof_json, theorem_json}
+use Rattle.goal_state.proofs.Means.{decls_held}
 use Rattle.state_print.proofs.Shown.{solved_as, no_root}
 
 module _ {T H : Type 0} (holds : T → H → Type 0) (means : T → H → Term) (s : StoredState T H) (ok : IsKeptState holds means s) where
@@ -18,13 +17,6 @@ module _ {T H : Type 0} (holds : T → H → Type 0) (means : T → H → Term) 
   module _ (t : T) (kept : Keeps (holds s.terms) (means s.terms) (holds t) (means t)) where
     pub metas_there : (metas : List (Decl H)) → metas ≡ s.metas → All (IsDeclOf (holds t)) metas
     metas_there metas e = subst (All (IsDeclOf (holds t))) (sym e) (decls_held (holds s.terms) (means s.terms) (holds t) (means t) kept s.metas ok.held.metas_held)
-
-    pub goals_there : (metas : List (Decl H)) (goals text : List ℕ) → metas ≡ s.metas → goals ≡ s.goals → text ≡ array_text (goal_texts (plain_metas (means t) metas) goals) → text ≡ goals_json (plain_state means s)
-    unfolding goals_json
-    goals_there metas goals text p q e =
-        e
-        ∙ ap₂ (λ (ds : List (Decl H)) (gs : List ℕ). array_text (goal_texts (plain_metas (means t) ds) gs)) p q
-        ∙ ap (λ (cs : List (Decl Term)). array_text (goal_texts cs s.goals)) (plain_metas_kept (holds s.terms) (means s.terms) (holds t) (means t) kept s.metas ok.held.metas_held)
 
   -- the root is declared, and its type is that of the state
   pub root_held : (metas : List (Decl H)) (terms : T) (d : Decl H) → metas ≡ s.metas → terms ≡ s.terms → Some d ≡ slice_get metas 0 → holds terms d.ty

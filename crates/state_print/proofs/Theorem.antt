@@ -1,6 +1,6 @@
 -- The theorem of a legal state holds no metavariable.
-use Rattle.std.proofs.Common.{◌≡◌, ℕ, zero, suc, ◌<◌, List, [], ◌∷◌, Bool, true, false, ◌||◌, nat_eq, length, Some, None, refl, sym, ap, ◌∙◌, arith, eq-eqb}
-use Rattle.ld_trees.specs.Term.{Head, Named, Numbered, Term, Srt, Var, App, Lam, Pi, Con, Terms, none, ◌▹◌, count}
+use Rattle.std.proofs.Common.{◌≡◌, ℕ, zero, suc, ◌<◌, List, [], ◌∷◌, Bool, true, false, ◌||◌, nat_eq, length, None, refl, ap, ◌∙◌, arith, eq-eqb}
+use Rattle.ld_trees.specs.Term.{Named, Numbered, Term, Srt, Var, App, Lam, Pi, Con, Terms, none, ◌▹◌, count}
 use Rattle.ld_rules.specs.Expansion.{Bodies, expand, expand_all, expanded}
 use Rattle.ld_terms.specs.declared.globals.Item.{Item}
 use Rattle.ld_terms.specs.declared.globals.Decl.{Decl}
@@ -9,7 +9,7 @@ use Rattle.meta_trees.specs.MetaContext.{Metas}
 use Rattle.meta_trees.specs.Dependencies.{occurs, occurs_in}
 use Rattle.meta_laws.specs.Unfolding.{values}
 use Rattle.meta_context.specs.Stored.{decl_of}
-use Rattle.goal_state.specs.State.{State, rules_metas, root_type, IsLegalState}
+use Rattle.goal_state.specs.State.{rules_metas, root_type, IsLegalState}
 use Rattle.state_print.specs.Pieces.{unfolded}
 use Rattle.state_print.specs.Laws.{TheoremIsUnfolded}
 

@@ -1,6 +1,6 @@
 -- Loops that print from a store that grows.
-use Rattle.std.proofs.Common.{◌≡◌, ℕ, zero, suc, ◌+◌, ◌<◌, List, [], ◌∷◌, ◌++◌, map, take, length, get_or, All, Option, Some, None, option_map, slice_get, refl, sym, ap, ap₂, ◌∙◌, subst, arith, append-nil}
-use Rattle.std.specs.Prelude.{flat_map, codes}
+use Rattle.std.proofs.Common.{◌≡◌, ℕ, zero, suc, ◌+◌, ◌<◌, List, [], ◌∷◌, ◌++◌, map, take, length, get_or, All, Some, None, option_map, slice_get, refl, sym, ap, ap₂, ◌∙◌, subst, arith, append-nil}
+use Rattle.std.specs.Prelude.{flat_map, codes, decimal}
 use Rattle.std.proofs.lemmas.List.{map-append, take_more, flat_map_more}
 use Rattle.std.proofs.lemmas.List.Elements.{All-append}
 use Rattle.std.proofs.lemmas.Option.{same_Some, slice_get-map}
@@ -15,12 +15,14 @@ use Rattle.meta_context.specs.Entered.{names_of, AreDeclared}
 use Rattle.meta_context.specs.Plain.{plain_local, plain_locals}
 use Rattle.meta_context.specs.Stored.{metas_of}
 use Rattle.meta_laws.specs.Unfolding.{unfold_metas}
-use Rattle.goal_state.specs.State.{plain_decl, plain_metas, rules_metas}
+use Rattle.meta_context.specs.Declaring.{IsOpen}
+use Rattle.goal_state.specs.State.{plain_decl, plain_metas}
 use Rattle.goal_state.proofs.Means.{metas_again, metas_kept, plain_metas_kept}
+use Rattle.coupling.specs.Coupling.{coupled}
 use Rattle.reply_text.specs.Members.{number, object_text}
 use Rattle.reply_text.specs.Shown.{term_json}
 use Rattle.reply_text.specs.Context.{shown_names, context_json}
-use Rattle.state_print.specs.Pieces.{unfolded, unfolded_entry, goal_over, goal_json, found_goal, goal_texts}
+use Rattle.state_print.specs.Pieces.{unfolded, unfolded_entry, coupled_member, goal_over, goal_json, found_goal, goal_texts}
 
 tail_all : {X : Type 0} (P : X → Type 0) (x : X) (xs : List X) → All P (x ∷ xs) → All P xs
 tail_all P x xs a i d l = a (suc i) d (omega arith)
@@ -124,11 +126,11 @@ module _ {H : Type 0} (holds : H → Type 0) (means : H → Term) (holds' : H �
 
 -- ---- the members of a goal
 
-pub goal_members : {H : Type 0} (means : H → Term) (m : ℕ) (ls : List (Local H)) (ty : Term)
-    → number (codes "goal") m ∷ record { key = codes "target"; value = term_json (shown_names (names_of ls)) ty } ∷ record { key = codes "vars"; value = context_json (names_of ls) (map (λ (l : Local H). means l.ty) ls) } ∷ []
-    ≡ (goal_over m (plain_locals means ls) ty).before
-goal_members means m ls ty =
-    ap₂ (λ (ns : List (List ℕ)) (ts : List Term). number (codes "goal") m ∷ record { key = codes "target"; value = term_json (shown_names ns) ty } ∷ record { key = codes "vars"; value = context_json ns ts } ∷ []) (names_again means ls) (types_again means ls)
+pub goal_members : {H : Type 0} (means : H → Term) (others : List ℕ) (m : ℕ) (ls : List (Local H)) (ty : Term)
+    → coupled_member others ∷ number (codes "goal") m ∷ record { key = codes "target"; value = term_json (shown_names (names_of ls)) ty } ∷ record { key = codes "vars"; value = context_json (names_of ls) (map (λ (l : Local H). means l.ty) ls) } ∷ []
+    ≡ (goal_over others m (plain_locals means ls) ty).before
+goal_members means others m ls ty =
+    ap₂ (λ (ns : List (List ℕ)) (ts : List Term). coupled_member others ∷ number (codes "goal") m ∷ record { key = codes "target"; value = term_json (shown_names ns) ty } ∷ record { key = codes "vars"; value = context_json ns ts } ∷ []) (names_again means ls) (types_again means ls)
 
 -- unfolded entries have the names that they had
 pub names_made : {H : Type 0} (means' means : H → Term) (metas : List (Decl Term)) (made ls : List (Local H)) → plain_locals means' made ≡ map (unfolded_entry metas) (plain_locals means ls) → names_of made ≡ names_of ls
@@ -136,12 +138,12 @@ names_made means' means metas made ls e = names_again means' made ∙ ap names_o
 
 -- The text of a goal, whose type was unfolded first and then its context, each in a store that had grown.
 module _ {H : Type 0} (holds : H → Type 0) (means : H → Term) (holds' : H → Type 0) (means' : H → Term) (holds'' : H → Type 0) (means'' : H → Term) (ds : List (Decl H)) where
-  pub goal_made : (m : ℕ) (d : Decl H) (ty : H) (made : List (Local H)) (text : List ℕ) → All (IsDeclOf holds) ds → IsDeclOf holds d → Keeps holds means holds' means' → Keeps holds' means' holds'' means''
+  pub goal_made : (others : List ℕ) (m : ℕ) (d : Decl H) (ty : H) (made : List (Local H)) (text : List ℕ) → All (IsDeclOf holds) ds → IsDeclOf holds d → Keeps holds means holds' means' → Keeps holds' means' holds'' means''
       → holds' ty → means' ty ≡ unfold_metas (metas_of means ds) (means d.ty) → plain_locals means'' made ≡ map (unfolded_entry (plain_metas means' ds)) (plain_locals means' d.ctx)
-      → text ≡ object_text (goal_over m (plain_locals means'' made) (means'' ty)) → text ≡ goal_json (plain_metas means ds) m (plain_decl means d)
-  goal_made m d ty made text da dh k l held tree entries e =
+      → text ≡ object_text (goal_over others m (plain_locals means'' made) (means'' ty)) → text ≡ goal_json others (plain_metas means ds) m (plain_decl means d)
+  goal_made others m d ty made text da dh k l held tree entries e =
       e
-      ∙ ap₂ (λ (ls : List (Local Term)) (t : Term). object_text (goal_over m ls t))
+      ∙ ap₂ (λ (ls : List (Local Term)) (t : Term). object_text (goal_over others m ls t))
       (entries ∙ ap₂ (λ (cs : List (Decl Term)) (ls : List (Local Term)). map (unfolded_entry cs) ls) (plain_metas_kept holds means holds' means' k ds da) (entries_kept holds means holds' means' k d.ctx dh.ctx))
       ((l ty held).1 ∙ unfolded_there means ds d.ty (means' ty) tree)
 
@@ -161,6 +163,26 @@ held_at holds (x ∷ ds) (suc m) d a e = held_at holds ds m d (tail_all (IsDeclO
 pub none_more : {H : Type 0} (means : H → Term) (ds : List (Decl H)) (m : ℕ) (texts : List (List ℕ)) → None ≡ slice_get ds m → texts ≡ texts ++ found_goal (plain_metas means ds) m (slice_get (plain_metas means ds) m)
 none_more means ds m texts e = sym (append-nil texts) ∙ ap (λ o. texts ++ found_goal (plain_metas means ds) m o) (ap (option_map (plain_decl means)) e ∙ sym (slice_get-map (plain_decl means) ds m))
 
-pub one_more : {H : Type 0} (means : H → Term) (ds : List (Decl H)) (m : ℕ) (d : Decl H) (texts : List (List ℕ)) (text : List ℕ) → Some d ≡ slice_get ds m → text ≡ goal_json (plain_metas means ds) m (plain_decl means d)
+pub one_more : {H : Type 0} (means : H → Term) (ds : List (Decl H)) (others : List ℕ) (m : ℕ) (d : Decl H) (texts : List (List ℕ)) (text : List ℕ) → Some d ≡ slice_get ds m
+    → others ≡ coupled (plain_metas means ds) m → text ≡ goal_json others (plain_metas means ds) m (plain_decl means d)
     → texts ++ text ∷ [] ≡ texts ++ found_goal (plain_metas means ds) m (slice_get (plain_metas means ds) m)
-one_more means ds m d texts text e f = ap (λ x. texts ++ x ∷ []) f ∙ ap (λ o. texts ++ found_goal (plain_metas means ds) m o) (ap (option_map (plain_decl means)) e ∙ sym (slice_get-map (plain_decl means) ds m))
+one_more means ds others m d texts text e same f =
+    ap (λ x. texts ++ x ∷ []) (f ∙ ap (λ os. goal_json os (plain_metas means ds) m (plain_decl means d)) same)
+    ∙ ap (λ o. texts ++ found_goal (plain_metas means ds) m o) (ap (option_map (plain_decl means)) e ∙ sym (slice_get-map (plain_decl means) ds m))
+
+-- ---- the goals coupled with an active one
+
+-- an active goal is open
+pub open_at : (ds : List (Decl Term)) (goals : List ℕ) (i m : ℕ) → All (IsOpen ds) goals → i < length goals → m ≡ get_or goals i 0 → IsOpen ds m
+open_at ds goals i m a l e = rw e (a i 0 l)
+
+-- the same goals are coupled with it in a store that has grown
+pub coupled_kept : {H : Type 0} (holds : H → Type 0) (means : H → Term) (holds' : H → Type 0) (means' : H → Term) → Keeps holds means holds' means' → (ds : List (Decl H)) → All (IsDeclOf holds) ds
+    → (m : ℕ) (ms : List ℕ) → ms ≡ coupled (plain_metas means ds) m → ms ≡ coupled (plain_metas means' ds) m
+coupled_kept holds means holds' means' kept ds a m ms e = e ∙ ap (λ cs. coupled cs m) (sym (plain_metas_kept holds means holds' means' kept ds a))
+
+-- ---- numbers, one after another
+
+pub next_number : (ms : List ℕ) (i m : ℕ) (texts : List (List ℕ)) (text : List ℕ) → i < length ms → m ≡ get_or ms i 0 → texts ≡ map decimal (take i ms) → text ≡ decimal m → texts ++ text ∷ [] ≡ map decimal (take (i + 1) ms)
+next_number ms i m texts text low is are e =
+    ap₂ (λ (xs : List (List ℕ)) (x : List ℕ). xs ++ x ∷ []) are (e ∙ ap decimal is) ∙ sym (ap (map decimal) (take_more ms i 0 low) ∙ map-append decimal (take i ms) (get_or ms i 0 ∷ []))

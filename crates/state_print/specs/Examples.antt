@@ -1,5 +1,5 @@
 -- The states of a worked session: a proof of (A : *) -> A -> A by `intro A`, `intro x` and `exact x`; and states whose goals mention
--- assigned metavariables or names that stand twice.
+-- assigned metavariables or names that stand twice, or need a common goal.
 use Rattle.std.specs.Prelude.{ℕ, List, [], ◌∷◌, Some, None, false, codes}
 use Rattle.ld_trees.specs.Term.{Term, Star, Var, Lam, Pi, Meta, none, ◌▹◌}
 use Rattle.ld_rules.specs.Examples.{identity_type}
@@ -8,6 +8,7 @@ use Rattle.ld_terms.specs.declared.globals.Decl.{Decl}
 use Rattle.repl_json.specs.declared.reply.Body.{Body}
 use Rattle.goal_state.specs.State.{State}
 use Rattle.goal_state.specs.Starting.{first_state}
+use Rattle.coupling.specs.Examples.{between}
 
 abbrev pub entry : List ℕ → Term → Local Term
 entry name ty = record { name = name; ty = ty }
@@ -63,6 +64,10 @@ two_goals =
     ∷ goal (entry (codes "A") Star ∷ entry (codes "A") (Var 0) ∷ []) (Pi (Var 1) (Meta 0 none))
     ∷ [])
     (3 ∷ 2 ∷ [])
+
+-- ?1 : N(), ?2 : le(a(), ?1[]) and ?3 : le(?1[], b()) are active
+abbrev pub three_goals : State
+three_goals = state between (1 ∷ 2 ∷ 3 ∷ [])
 
 -- a reply whose pieces are these, with the number of entries behind the first one
 abbrev pub body : List ℕ → List ℕ → List ℕ → Body

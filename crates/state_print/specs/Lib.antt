@@ -1,4 +1,5 @@
 pub mod Pieces
+pub mod Needs
 pub mod Bodies
 pub mod Laws
 pub mod Examples

@@ -17,10 +17,12 @@ fn bool_text(value: bool) -> &'static str
 }
 
 /// The reply that makes a state up to the number of entries.
-fn made_front(alloc: Global, goals: &[u8]) -> Result<Vec<u8>, AllocError>
-    ensures { IfOk result (λ v. v.items ≡ spec.made_front goals.now) }
+fn made_front(alloc: Global, dormant: &[u8], goals: &[u8]) -> Result<Vec<u8>, AllocError>
+    ensures { IfOk result (λ v. v.items ≡ spec.made_front dormant.now goals.now) }
 {
-    let mut text = Vec::from_slice(alloc, b"{\"goals\":")?;
+    let mut text = Vec::from_slice(alloc, b"{\"dormant\":")?;
+    text.extend_from_slice(dormant)?;
+    text.extend_from_slice(b",\"goals\":")?;
     text.extend_from_slice(goals)?;
     text.extend_from_slice(b",\"seq\":")?;
     Ok(text)
@@ -36,14 +38,14 @@ fn made_middle(alloc: Global, solved: bool) -> Result<Vec<u8>, AllocError>
     Ok(text)
 }
 
-/// The reply that makes a state, with gaps for the number of entries and for the state's new id: `goals`, `seq`, `solved`, `stateId`.
+/// The reply that makes a state, with gaps for the number of entries and for the state's new id: `dormant`, `goals`, `seq`, `solved`, `stateId`.
 ///
 /// Fails for want of memory alone.
 pub fn made_body(alloc: Global, text: &StateText) -> Result<Body, AllocError>
     ensures { IfOk result (λ b. b ≡ spec.made_body text.now) }
 {
     Ok(Body {
-        first: List::of(made_front(alloc, text.goals.as_slice())?),
+        first: List::of(made_front(alloc, text.dormant.as_slice(), text.goals.as_slice())?),
         second: List::of(made_middle(alloc, text.solved)?),
         third: List::of(Vec::from_slice(alloc, b"}")?),
         id_first: false,
@@ -74,19 +76,20 @@ fn push_term(
     }
 }
 
-/// The reply that prints a state, with a gap for the number of entries: `goals`, `seq`, `solved`, for a solved state `term`, and `type`.
+/// The reply that prints a state, with a gap for the number of entries: `dormant`, `goals`, `seq`, `solved`, for a solved state `term`, and `type`.
 ///
 /// Fails for want of memory alone.
 pub fn printed_body(alloc: Global, text: &StateText) -> Result<Body, AllocError>
     ensures { IfOk result (λ b. b ≡ spec.printed_body text.now) }
 {
+    let dormant = member_of(alloc, "dormant", text.dormant.as_slice())?;
     let goals = member_of(alloc, "goals", text.goals.as_slice())?;
     let solved = member_of(alloc, "solved", bool_text(text.solved).as_bytes())?;
     let mut after = vec![in alloc; solved]?;
     push_term(alloc, &mut after, &text.term)?;
     after.push(member_of(alloc, "type", text.ty.as_slice())?)?;
     let members = Members {
-        before: List::of(vec![in alloc; goals]?),
+        before: List::of(vec![in alloc; dormant, goals]?),
         after: List::of(after),
     };
     members.to_body(alloc)

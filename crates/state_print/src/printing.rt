@@ -3,18 +3,20 @@ ghost use Rattle.goal_state.specs.StoredState.{plain_state};
 ghost use Rattle.state_print.specs.Pieces as spec;
 
 use crate::goals::goals_json;
+use crate::numbers::numbers_json;
 use crate::text::StateText;
 use goal_state::GoalState;
 use ld_terms::{Bytes, List, Terms};
 use reply_text::term_json;
 use std::alloc::{AllocError, Global};
 
-/// The active goals of a state, in a fork of its store.
-fn state_goals<T: Terms + Drop>(alloc: Global, state: &GoalState<T>) -> Result<Vec<u8>, AllocError>
-    ensures { IfOk result (λ v. v.items ≡ spec.goals_json (plain_state T.means state.now)) }
+/// The dormant goals of a state as a JSON list.
+#[tactic(auto, unfolding(crate::specs::Pieces::dormant_json))]
+fn dormant_json<T: Terms + Drop>(alloc: Global, state: &GoalState<T>) -> Result<Vec<u8>, AllocError>
+    ensures { IfOk result (λ v. v.items ≡ spec.dormant_json (plain_state T.means state.now)) }
 {
-    let mut terms = state.terms().fork(alloc)?;
-    goals_json(alloc, &mut terms, state.metas(), state.goals())
+    let dormant = state.dormant(alloc)?;
+    numbers_json(alloc, dormant.as_slice())
 }
 
 /// The value of metavariable 0, where the state is solved.
@@ -51,11 +53,13 @@ pub fn print_state<T: Terms + Drop>(
 ) -> Result<StateText, AllocError>
     ensures { IfOk result (λ t. t ≡ spec.state_text (plain_state T.means state.now)) }
 {
-    let goals = state_goals(alloc, state)?;
+    let goals = goals_json(alloc, state)?;
+    let dormant = dormant_json(alloc, state)?;
     let term = proof_json(alloc, state)?;
     let ty = theorem_json(alloc, state)?;
     Ok(StateText {
         goals: List::of(goals),
+        dormant: List::of(dormant),
         solved: state.solved(),
         term,
         ty: List::of(ty),

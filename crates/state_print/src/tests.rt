@@ -85,7 +85,8 @@ fn begun<T: Terms + Drop>(
     start(alloc, terms, &mut fuel, ty)
 }
 
-const GOAL: &[u8] = b"[{\"goal\":0,\"target\":\"(%0 : *) -> %0 -> %0\",\"vars\":[]}]";
+const GOAL: &[u8] =
+    b"[{\"coupled\":[],\"goal\":0,\"target\":\"(%0 : *) -> %0 -> %0\",\"vars\":[]}]";
 
 #[test]
 fn an_unsolved_state_shows_its_goals(rt: HostRuntime) -> Result<(), Fail> {
@@ -95,6 +96,7 @@ fn an_unsolved_state_shows_its_goals(rt: HostRuntime) -> Result<(), Fail> {
         Ok(state) => {
             let text = print_state(alloc, &state)?;
             assert!(rt; text.goals.as_slice() == GOAL);
+            assert!(rt; text.dormant.as_slice() == b"[]".as_slice());
             assert!(rt; !text.solved);
             assert!(rt; text.term.is_none());
             assert!(rt; text.ty.as_slice() == b"\"(%0 : *) -> %0 -> %0\"".as_slice());
@@ -112,7 +114,7 @@ fn a_type_too_deep_to_print_shows_its_size(rt: HostRuntime) -> Result<(), Fail> 
         Ok(state) => {
             let text = print_state(alloc, &state)?;
             let goals: &[u8] =
-                b"[{\"goal\":0,\"target\":{\"depth\":513,\"nodes\":1025},\"vars\":[]}]";
+                b"[{\"coupled\":[],\"goal\":0,\"target\":{\"depth\":513,\"nodes\":1025},\"vars\":[]}]";
             assert!(rt; text.goals.as_slice() == goals);
             assert!(rt; text.ty.as_slice() == b"{\"depth\":513,\"nodes\":1025}".as_slice());
         }
@@ -140,6 +142,7 @@ fn has_pieces(body: &Body, first: &[u8], second: &[u8], third: &[u8]) -> bool {
 fn solved_text(alloc: Global) -> Result<StateText, AllocError> {
     Ok(StateText {
         goals: List::from_slice(alloc, b"[]")?,
+        dormant: List::from_slice(alloc, b"[]")?,
         solved: true,
         term: Some(List::from_slice(alloc, b"\"* -> *\"")?),
         ty: List::from_slice(alloc, b"\"*\"")?,
@@ -153,7 +156,7 @@ fn replies_have_gaps(rt: HostRuntime) -> Result<(), Fail> {
     assert!(rt;
         has_pieces(
             &made_body(alloc, &text)?,
-            b"{\"goals\":[],\"seq\":",
+            b"{\"dormant\":[],\"goals\":[],\"seq\":",
             b",\"solved\":true,\"stateId\":",
             b"}"
         )
@@ -161,7 +164,7 @@ fn replies_have_gaps(rt: HostRuntime) -> Result<(), Fail> {
     assert!(rt;
         has_pieces(
             &printed_body(alloc, &text)?,
-            b"{\"goals\":[],\"seq\":",
+            b"{\"dormant\":[],\"goals\":[],\"seq\":",
             b",\"solved\":true,\"term\":\"* -> *\",\"type\":\"*\"}",
             b""
         )

@@ -40,6 +40,6 @@ returns-clause-text g c =
     let metas = plain_metas (means one) c.args.metas.now in
     let entries = ap (plain_locals (means two)) c.deref.ensures.value ∙ c.in_ok-entries.ensures.entries ∙ ap (λ ls. map (unfolded_entry metas) (plain_locals (means one) ls)) c.as_slice.ensures in
     IfOk-weaker c.goal_over.result _ _
-    (λ v e. goal_made (holds old) (means old) (holds one) (means one) (holds two) (means two) c.args.metas.now c.args.goal c.args.decl.now c.in_ok-ty.ty c.deref.result.now v.items
+    (λ v e. goal_made (holds old) (means old) (holds one) (means one) (holds two) (means two) c.args.metas.now c.args.others.now c.args.goal c.args.decl.now c.in_ok-ty.ty c.deref.result.now v.items
     c.requires.metas c.requires.decl c.in_ok-ty.ensures.kept c.in_ok-entries.ensures.kept c.in_ok-ty.ensures.held c.in_ok-ty.ensures.tree entries e)
     c.goal_over.ensures

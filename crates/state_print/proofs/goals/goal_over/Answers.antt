@@ -4,4 +4,4 @@ use Rattle.state_print.proofs.Turns.{goal_members}
 use Rattle.state_print.proofs.goals.goal_over.Goals as goal
 
 pub returns : goal.returns
-returns g c = let means = g.T.Terms.means c.args.terms.now in let e = goal_members means c.args.goal c.args.ctx.now (means c.args.ty) in grind (arith, common_steps)
+returns g c = let means = g.T.Terms.means c.args.terms.now in let e = goal_members means c.args.others.now c.args.goal c.args.ctx.now (means c.args.ty) in grind (arith, common_steps)

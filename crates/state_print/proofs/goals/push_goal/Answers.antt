@@ -1,4 +1,4 @@
-use Rattle.std.proofs.Common.{◌∷◌, ◌++◌, [], map, sym, ap, ◌∙◌, rules}
+use Rattle.std.proofs.Common.{◌∷◌, [], map, sym, ap, ◌∙◌, rules}
 use Rattle.std.proofs.lemmas.List.{map-append}
 use Rattle.state_print.proofs.Turns.{named_at, held_at, none_more, one_more}
 use Rattle.state_print.proofs.goals.push_goal.Goals as goal
@@ -19,4 +19,4 @@ returns-in_ok-push-in-Some-clause-text g c =
     let q = c.in_ok-goal_json-in-Some in
     ap (map (λ x. x.items)) c.in_ok-push-in-Some.ensures.items
     ∙ map-append (λ x. x.items) c.args.texts.now.items (q.field-0 ∷ [])
-    ∙ one_more (g.T.Terms.means c.args.terms.now) c.args.metas.now c.args.goal c.in-Some.decl.now (map (λ x. x.items) c.args.texts.now.items) q.field-0.items c.in-Some.ensures q.ensures.text
+    ∙ one_more (g.T.Terms.means c.args.terms.now) c.args.metas.now c.args.others.now c.args.goal c.in-Some.decl.now (map (λ x. x.items) c.args.texts.now.items) q.field-0.items c.in-Some.ensures c.requires.others q.ensures.text
