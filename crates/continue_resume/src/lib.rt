@@ -19,3 +19,6 @@ pub use laws::{
     continuing_is_legal, resuming_is_legal, roots_are_decided, shared_goals_are_decided,
 };
 pub use resuming::resume;
+
+#[cfg(test)]
+mod tests;
