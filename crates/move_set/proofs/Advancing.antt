@@ -1,5 +1,5 @@
--- What each move gives, on an open goal of legal metavariables: legal metavariables, of which only dependencies of the goal's declaration have
--- got values; and new goals, each once.
+-- What `intro`, `refine`, `exact` and `apply` give, on an open goal of legal metavariables: legal metavariables, of which only dependencies
+-- of the goal's declaration have got values; and new goals, each once.
 use Rattle.std.proofs.Common.{◌≡◌, ℕ, zero, suc, ◌<◌, ◌≤◌, List, [], ◌∷◌, ◌++◌, length, All, not, Some, None, option_map, refl, sym, ap, ◌∙◌, subst, arith, inl, inr, append_assoc}
 use Rattle.std.specs.Prelude.{slice_get}
 use Rattle.std.proofs.lemmas.Option.{slice_get_within}
@@ -19,8 +19,6 @@ use Rattle.ld_terms.specs.declared.globals.Decl.{Decl}
 use Rattle.ld_terms.proofs.Arguments.{terms_of_end}
 use Rattle.term_syntax.specs.Lex.{Text}
 use Rattle.term_syntax.specs.declared.surface.Surface.{Surface}
-use Rattle.move_text.specs.declared.moves.Move.{Move}
-use Rattle.move_text.specs.declared.moves.Move.TheVariants as move
 use Rattle.conversion.specs.Globals.{decl_tree}
 use Rattle.conversion.specs.Runs as kernel
 use Rattle.conversion.specs.WeakHead.{whnf}
@@ -60,12 +58,12 @@ use Rattle.elaboration.proofs.Standing.{InSet, IsGood, HasContext, HasTerm, IsAf
 use Rattle.elaboration.proofs.Calls.{HasParts, product_has, has_abstraction, has_application, unify_gives, sorted_gives, Sorted, new_after, new_number, new_term}
 use Rattle.elaboration.proofs.Nodes.{IsDone, elaborate_gives, distinct_more}
 use Rattle.elaboration.proofs.Sound.{each_in_set, all_in_set, near_closed, dependency_in, unifies_within}
-use Rattle.move_set.specs.Refusals.{Refusal, NotYet, NameTaken, NotProduct, from_elaboration, from_unification}
+use Rattle.move_set.specs.Refusals.{Refusal, NameTaken, NotProduct, from_elaboration, from_unification}
 use Rattle.move_set.specs.Applying.{Application, Applies, longer, parts_or, product_of, fitted, applied, apply_step, apply_deep, apply}
 use Rattle.move_set.specs.Asked.{first_asked}
-use Rattle.move_set.specs.Moves.{Moved, has_entry, none_open, settled, abstracted, intro, refine, exact, apply_to, step}
+use Rattle.move_set.specs.Moves.{Moved, has_entry, none_open, settled, abstracted, intro, refine, exact, apply_to}
 
-alone : (P : ℕ → Type 0) (x : ℕ) → P x → All P (x ∷ [])
+pub alone : (P : ℕ → Type 0) (x : ℕ) → P x → All P (x ∷ [])
 alone P x h zero e l = h
 alone P x h (suc k) e l = absurd (omega arith)
 
@@ -91,7 +89,7 @@ module _ (items : List (Item Term)) (base : Plain) (g : ℕ) (d : Decl Term) (th
 
   -- ---- the start
 
-  begins : Good (started items base)
+  pub begins : Good (started items base)
   begins = record {
     metas = record { legal = ok; extend = extend_itself base; closed = near_closed items base (declared_terms d) ok; others = λ k l no. refl };
     goals = All-nil (IsNew base base);
@@ -99,13 +97,13 @@ module _ (items : List (Item Term)) (base : Plain) (g : ℕ) (d : Decl Term) (th
     holes = All-nil (λ h. IsNew base base h.0);
   }
 
-  context : HasContext items base D base d.ctx
+  pub context : HasContext items base D base d.ctx
   context = record {
     legal = contexts_are_legal Δ (rules_metas base) g (decl_of itself d) ok (declares base g d there);
     inside = all_in_set D (rules_ctx d.ctx) (λ k w. inr (direct (or_left (occurs_in k (rules_ctx d.ctx)) _ w)));
   }
 
-  wanted : Has base n d.ty
+  pub wanted : Has base n d.ty
   wanted =
       let s : IsScopedItem (reach Δ base) (decl_tree itself g d) = reach_scoped items base ok (Numbered g) (decl_tree itself g d) (meta_in items base g ∙ ap (option_map (decl_tree itself g)) there) in
       record { scoped = s.ty; inside = each_in_set D d.ty (λ k w. inr (direct (or_right (occurs_in k (rules_ctx d.ctx)) _ w))) }
@@ -148,7 +146,7 @@ module _ (items : List (Item Term)) (base : Plain) (g : ℕ) (d : Decl Term) (th
         s.1,
       ))
 
-  settled_gives : (w : Work) (v : Term) (new : List ℕ) (holes : List (ℕ × ℕ)) → Good w → Has w.metas n v → All (IsNew base w.metas) new → AreDistinct new → Gives Advances (settled items base g d w.metas v new holes)
+  pub settled_gives : (w : Work) (v : Term) (new : List ℕ) (holes : List (ℕ × ℕ)) → Good w → Has w.metas n v → All (IsNew base w.metas) new → AreDistinct new → Gives Advances (settled items base g d w.metas v new holes)
   settled_gives w v new holes h t are once =
       gives_bind (gives_renamed from_unification (settle_gives w v h t)) (λ after s. gives_pure (record { metas = after; fresh = new; holes = holes }) (record { ended = s.0; fresh = goals_grow items base D w.metas after new s.1 are; once = once }))
 
@@ -179,13 +177,13 @@ module _ (items : List (Item Term)) (base : Plain) (g : ℕ) (d : Decl Term) (th
   abbrev HasSort : Plain → List (Local Term) → Term → Type 0
   HasSort metas Γ T = Sorted items base D fresh (unifies_within items D) metas Γ T tt
 
-  declared_gives : (metas : Plain) (Γ : List (Local Term)) (T : Term) → Gives (λ more. (more ≡ plain.declared Γ T metas) × HasSort metas Γ T) (declared Δ metas Γ T)
+  pub declared_gives : (metas : Plain) (Γ : List (Local Term)) (T : Term) → Gives (λ more. (more ≡ plain.declared Γ T metas) × HasSort metas Γ T) (declared Δ metas Γ T)
   declared_gives metas Γ T =
       gives_demand (not (is_full metas)) unification.TooManyMetas (λ _.
       gives_demand (not (is_too_deep (rules_ctx Γ ▹ T))) (unification.TooDeep (length metas)) (λ _.
       gives_then (sorted_gives items base D fresh (unifies_within items D) metas Γ T) (λ u s. gives_pure (plain.declared Γ T metas) (refl, s))))
 
-  context_in : (w : Work) → Good w → HasContext items base D w.metas d.ctx
+  pub context_in : (w : Work) → Good w → HasContext items base D w.metas d.ctx
   context_in w h = context_grows items base D base w.metas d.ctx begins.metas h.metas h.metas.extend context
 
   -- ---- `intro`
@@ -193,16 +191,17 @@ module _ (items : List (Item Term)) (base : Plain) (g : ℕ) (d : Decl Term) (th
   abbrev entry : Text → Term → Local Term
   entry x A = record { name = x; ty = A }
 
-  extended_gives : (x : Text) (A : Term) → Has base n A → Gives (λ Γ. HasContext items base D base Γ × (rules_ctx Γ ≡ rules_ctx d.ctx ▹ A)) (extended Δ base d.ctx x A)
-  extended_gives x A h =
-      gives_then (sorted_gives items base D fresh (unifies_within items D) base d.ctx A) (λ u s.
-      let Σ = rules_metas base in
+  pub extended_gives : (w : Work) → Good w → (x : Text) (A : Term) → Has w.metas n A → Gives (λ Γ. HasContext items base D w.metas Γ × (rules_ctx Γ ≡ rules_ctx d.ctx ▹ A)) (extended Δ w.metas d.ctx x A)
+  extended_gives w good x A h =
+      gives_then (sorted_gives items base D fresh (unifies_within items D) w.metas d.ctx A) (λ u s.
+      let Σ = rules_metas w.metas in
+      let here = context_in w good in
       let whole : rules_ctx (d.ctx ++ entry x A ∷ []) ≡ rules_ctx d.ctx ▹ A = terms_of_end (λ (l : Local Term). l.ty) d.ctx (entry x A) in
       gives_pure (d.ctx ++ entry x A ∷ []) (
         record {
           legal = subst (λ G. IsLegal (cut Σ Δ G) G) (sym whole)
-              (extending_is_sound Δ Σ (rules_ctx d.ctx) A s.0 s.1 s.2 ok context.legal (subst (λ E. infer_sort E (rules_ctx d.ctx) A s.1 ≡ kernel.Gave s.0 s.2) (reach_is Δ base) s.3));
-          inside = subst (EachHeadOfAll (InSet D)) (sym whole) (context.inside, h.inside);
+              (extending_is_sound Δ Σ (rules_ctx d.ctx) A s.0 s.1 s.2 good.metas.legal here.legal (subst (λ E. infer_sort E (rules_ctx d.ctx) A s.1 ≡ kernel.Gave s.0 s.2) (reach_is Δ w.metas) s.3));
+          inside = subst (EachHeadOfAll (InSet D)) (sym whole) (here.inside, h.inside);
         },
         whole,
       ))
@@ -221,24 +220,24 @@ module _ (items : List (Item Term)) (base : Plain) (g : ℕ) (d : Decl Term) (th
       subst (λ m. Gives Advances (settled items base g d m (Lam A (over_all (length base) (length Γ))) (length base ∷ []) [])) (sym s.0)
       (settled_gives (with_metas final w) (Lam A (over_all (length base) (length Γ))) (length base ∷ []) [] after.good value (alone (IsNew base final) (length base) number) (refl, tt)))
 
-  intro_gives : (x : Text) → Gives Advances (intro items base g d x)
+  pub intro_gives : (x : Text) → Gives Advances (intro items base g d x)
   intro_gives x =
       gives_demand (not (has_entry d.ctx x)) (NameTaken x) (λ free.
       gives_bind (product_gives NotProduct (started items base) n d.ty begins wanted) (λ (A, B) p.
-      gives_bind (gives_renamed from_unification (extended_gives x A p.domain)) (λ Γ c. abstracted_gives A B Γ p c.0 c.1)))
+      gives_bind (gives_renamed from_unification (extended_gives (started items base) begins x A p.domain)) (λ Γ c. abstracted_gives A B Γ p c.0 c.1)))
 
   -- ---- `refine` and `exact`
 
   pub check_gives : (t : Surface) → Gives (λ m. IsDone items base D fresh (unifies_within items D) (Of d.ty) (started items base) n m) (check items base d.ctx t d.ty)
   check_gives t = elaborate_gives items base D fresh (unifies_within items D) t (Of d.ty) (started items base) (standing items d.ctx) begins context wanted
 
-  refine_gives : (t : Surface) → Gives Advances (refine items base g d t)
+  pub refine_gives : (t : Surface) → Gives Advances (refine items base g d t)
   refine_gives t =
       gives_bind (gives_renamed from_elaboration (check_gives t)) (λ m s.
       let good = s.made.after.good in
       settled_gives m.work m.term m.work.goals m.work.holes good s.made.term good.goals good.once)
 
-  exact_gives : (t : Surface) → Gives Advances (exact items base g d t)
+  pub exact_gives : (t : Surface) → Gives Advances (exact items base g d t)
   exact_gives t = gives_then (gives_any (none_open (first_asked t))) (λ u h. refine_gives t)
 
   -- ---- `apply`
@@ -312,7 +311,7 @@ module _ (items : List (Item Term)) (base : Plain) (g : ℕ) (d : Decl Term) (th
         ty = s.made.ty;
       }
 
-  apply_to_gives : (t : Surface) → Gives Advances (apply_to items base g d t)
+  pub apply_to_gives : (t : Surface) → Gives Advances (apply_to items base g d t)
   apply_to_gives t =
       gives_bind (gives_renamed from_elaboration (synth_gives t)) (λ m s.
       gives_bind (apply_gives m.work.goals (first m) (first_applied m s)) (λ a h.
@@ -325,13 +324,3 @@ module _ (items : List (Item Term)) (base : Plain) (g : ℕ) (d : Decl Term) (th
 
   pub open_when_applied : (t : Surface) (m : Made) (units k l left : ℕ) (a : Application) → synth items base d.ctx t units ≡ Gave m k → apply Δ d (first m) l ≡ Gave a left → IsOpen a.metas g
   open_when_applied t m units k l left a e f = let h = given (apply_gives m.work.goals (first m) (first_applied m (given (synth_gives t) units k m e))) l left a f in goal_open (work_of m.work.goals a) h.good
-
-  pub step_gives : (m : Move) → Gives Advances (step items base g d m)
-  step_gives (move.Intro x) = intro_gives x
-  step_gives (move.Exact t) = exact_gives t
-  step_gives (move.Refine t) = refine_gives t
-  step_gives (move.Apply t) = apply_to_gives t
-  step_gives (move.Have x t) = gives_refuse NotYet
-  step_gives move.Assumption = gives_refuse NotYet
-  step_gives (move.Change t) = gives_refuse NotYet
-  step_gives (move.Unfold a) = gives_refuse NotYet

@@ -76,9 +76,11 @@ module _ {H : Type 0} (p q : H → Type 0) (m n : H → Term) (kept : Keeps p m 
     pub move_through : (e : MoveFault H) → Shows p m o left e → Shows q n w left' e
     move_through (fault.Syntax at) h = refused _ h
     move_through (fault.NoGoal index count) h = refused _ h
-    move_through fault.NotYet h = refused _ h
     move_through (fault.NameTaken name) h = refused _ h
     move_through fault.NotProduct h = refused _ h
+    move_through fault.NoAssumption h = refused _ h
+    move_through (fault.NotDefined name) h = refused _ h
+    move_through (fault.NoOccurrence name) h = refused _ h
     move_through (fault.Unsolved at) h = refused _ h
     move_through (fault.Elab e) h = (h.0, elab_through o w (λ r. r) left left' refused short (λ r. Elab r) e h.1)
     move_through fault.TooManyMetas h = refused _ h
@@ -186,9 +188,11 @@ module _ {H : Type 0} (p : H → Type 0) (m : H → Term) where
   pub refused_of : {A : Type 0} (o : Outcome Refusal A) (left : ℕ) (e : MoveFault H) → IsNoHalt e → Shows p m o left e → (r : Refusal) × (o ≡ Refused r left)
   refused_of o left (fault.Syntax at) real h = (_, h)
   refused_of o left (fault.NoGoal index count) real h = (_, h)
-  refused_of o left fault.NotYet real h = (_, h)
   refused_of o left (fault.NameTaken name) real h = (_, h)
   refused_of o left fault.NotProduct real h = (_, h)
+  refused_of o left fault.NoAssumption real h = (_, h)
+  refused_of o left (fault.NotDefined name) real h = (_, h)
+  refused_of o left (fault.NoOccurrence name) real h = (_, h)
   refused_of o left (fault.Unsolved at) real h = (_, h)
   refused_of o left (fault.Elab e) real h = inner_refused o left e h
   refused_of o left fault.TooManyMetas real h = (_, h)
@@ -204,9 +208,11 @@ module _ {H : Type 0} (p : H → Type 0) (m : H → Term) where
 pub no_halt : {H : Type 0} (e : MoveFault H) → (e ≡ fault.Fuel → ⊥) → (e ≡ fault.Memory → ⊥) → IsNoHalt e
 no_halt (fault.Syntax at) f g = tt
 no_halt (fault.NoGoal index count) f g = tt
-no_halt fault.NotYet f g = tt
 no_halt (fault.NameTaken name) f g = tt
 no_halt fault.NotProduct f g = tt
+no_halt fault.NoAssumption f g = tt
+no_halt (fault.NotDefined name) f g = tt
+no_halt (fault.NoOccurrence name) f g = tt
 no_halt (fault.Unsolved at) f g = tt
 no_halt (fault.Elab e) f g = tt
 no_halt fault.TooManyMetas f g = tt

@@ -1,7 +1,8 @@
 -- The fuel law of moves, and applying a term in terms of itself.
-use Rattle.std.proofs.Common.{◌≡◌, ℕ, zero, suc, ◌+◌, ◌<◌, ◌≤◌, Bool, true, false, not, List, length, Option, Some, None, Ok, Err, refl, ap, ◌∙◌, subst, arith}
-use Rattle.ld_trees.specs.Term.{Term, Pi, same}
-use Rattle.ld_rules.specs.Environment.{Env}
+use Rattle.std.proofs.Common.{◌≡◌, ℕ, zero, suc, ◌+◌, ◌<◌, ◌≤◌, Bool, true, false, not, ◌==◌, List, [], length, Option, Some, None, Ok, Err, refl, ap, ◌∙◌, subst, arith}
+use Rattle.ld_trees.specs.Term.{Term, Pi, Var, same}
+use Rattle.ld_trees.specs.Substitution.{weaken}
+use Rattle.ld_rules.specs.Environment.{Env, type_at}
 use Rattle.ld_terms.specs.declared.globals.Local.{Local}
 use Rattle.ld_terms.specs.declared.globals.Item.{Item}
 use Rattle.ld_terms.specs.declared.globals.Decl.{Decl}
@@ -14,7 +15,7 @@ use Rattle.move_text.specs.declared.moves.Move.TheVariants as move
 use Rattle.move_text.specs.Reading.{read}
 use Rattle.conversion.specs.WeakHead.{whnf}
 use Rattle.conversion.proofs.Heads.{lawful_whnf}
-use Rattle.meta_context.specs.Plain.{rules_env}
+use Rattle.meta_context.specs.Plain.{rules_ctx, rules_env}
 use Rattle.goal_state.specs.State.{State}
 use Rattle.unification.specs.Steps.{Outcome, Gave, Refused, OutOfFuel, pure, spend, choose, go_on, ◌>>=◌, ◌>>◌, retry, renamed}
 use Rattle.unification.specs.Steps as steps
@@ -22,15 +23,16 @@ use Rattle.unification.specs.Refusals as unification
 use Rattle.unification.specs.Refusals.{Plain}
 use Rattle.unification.specs.Metavariables.{reach}
 use Rattle.unification.specs.Unification.{unify}
-use Rattle.unification.proofs.Words.{Law, lawful, LawAt, law_pure, law_refuse, law_fuel, law_bind, law_then, law_demand, law_called, law_or_else, Agree, agree, agreed, agree_same, agree_none, agree_bind, law_depth, fuel_law}
+use Rattle.unification.proofs.Words.{Law, lawful, LawAt, law_pure, law_refuse, law_fuel, law_bind, law_then, law_demand, law_spend_each, law_called, law_or_else, Agree, agree, agreed, agree_same, agree_none, agree_bind, law_depth, fuel_law}
 use Rattle.unification.proofs.FuelLaws.{law_extended, law_declared, law_unify, law_settle}
-use Rattle.elaboration.specs.Elaboration.{Any, Of, started, standing}
+use Rattle.elaboration.specs.Elaboration.{Any, Of, AsType, started, standing, check_type}
 use Rattle.elaboration.proofs.Renamed.{law_renamed}
 use Rattle.elaboration.proofs.Fuel.{law_elaborate}
-use Rattle.move_set.specs.Refusals.{Refusal, Step, Syntax, NoGoal, NotYet, NameTaken, Unsolved, from_elaboration, from_unification}
+use Rattle.move_set.specs.Refusals.{Refusal, Step, Syntax, NoGoal, NameTaken, NoAssumption, NotDefined, NoOccurrence, Unsolved, elab_step, from_elaboration, from_unification}
 use Rattle.move_set.specs.Applying.{Application, Applies, parts_or, product_of, fitted, applied, apply_step, apply_deep, apply}
 use Rattle.move_set.specs.Asked.{first_asked}
-use Rattle.move_set.specs.Moves.{Moved, has_entry, none_open, settled, abstracted, intro, refine, exact, apply_to, step, first_open, goal_at, after_move, ended, at_goal, read_at_goal, moved}
+use Rattle.move_set.specs.Replacing.{occurrences, replaced}
+use Rattle.move_set.specs.Moves.{Moved, has_entry, body_or, opened, none_open, settled, abstracted, intro, refine, exact, apply_to, cut_over, cut, cut_by, have, fitting, first_fitting, assumption, restated, change_to, change, target, unfold_by, unfold_constant, step, first_open, goal_at, after_move, ended, at_goal, read_at_goal, moved}
 use Rattle.move_set.specs.Laws.{MovesHaveFuelLaw, ApplyingUnfolds}
 
 -- a lawful call that isn't refused without a unit has spent one where it is refused
@@ -138,6 +140,13 @@ law_none_open : (o : Option ℕ) → Law (none_open o)
 law_none_open None = law_pure tt
 law_none_open (Some at) = law_refuse (Unsolved at)
 
+law_body_or : (r : Refusal) (o : Option Term) → Law (body_or r o)
+law_body_or r None = law_refuse r
+law_body_or r (Some M) = law_pure M
+
+law_opened : (a : Text) (M t : Term) → Law (opened a M t)
+law_opened a M t = law_then (law_spend_each (occurrences a t)) (law_then (law_demand (not (occurrences a t == 0)) (NoOccurrence a)) (law_pure (replaced a M t)))
+
 module _ (items : List (Item Term)) (metas : Plain) (g : ℕ) (d : Decl Term) where
   law_settled : (more : Plain) (v : Term) (fresh : List ℕ) (holes : List (ℕ × ℕ)) → Law (settled items metas g d more v fresh holes)
   law_settled more v fresh holes = law_bind (law_renamed from_unification (law_settle (rules_env items) more g v)) (λ after. law_pure _)
@@ -158,15 +167,58 @@ module _ (items : List (Item Term)) (metas : Plain) (g : ℕ) (d : Decl Term) wh
   law_apply_to : (t : Surface) → Law (apply_to items metas g d t)
   law_apply_to t = law_bind (law_renamed from_elaboration (law_elaborate items t Any (started items metas) (standing items d.ctx))) (λ m. law_bind (law_apply (rules_env items) d _) (λ a. law_settled a.metas a.term _ m.work.holes))
 
+  law_cut_over : (first more : Plain) (Γ : List (Local Term)) (A : Term) (holes : List (ℕ × ℕ)) → Law (cut_over items metas g d first more Γ A holes)
+  law_cut_over first more Γ A holes = law_bind (law_renamed from_unification (law_declared (rules_env items) more Γ (weaken d.ty))) (λ second. law_settled second _ _ holes)
+
+  law_cut : (first : Plain) (x : Text) (A : Term) (holes : List (ℕ × ℕ)) → Law (cut items metas g d first x A holes)
+  law_cut first x A holes =
+      law_bind (law_renamed from_unification (law_declared (rules_env items) first d.ctx A)) (λ more.
+      law_bind (law_renamed from_unification (law_extended (rules_env items) more d.ctx x A)) (λ Γ. law_cut_over first more Γ A holes))
+
+  law_check_type : (t : Surface) → Law (elab_step (check_type items metas d.ctx t))
+  law_check_type t = law_renamed from_elaboration (law_elaborate items t AsType (started items metas) (standing items d.ctx))
+
+  law_cut_by : (x : Text) (t : Surface) → Law (cut_by items metas g d x t)
+  law_cut_by x t = law_bind (law_check_type t) (λ m. law_cut m.work.metas x m.term m.work.holes)
+
+  law_have : (x : Text) (t : Surface) → Law (have items metas g d x t)
+  law_have x t = law_then (law_demand (not (has_entry d.ctx x)) (NameTaken x)) (law_then (law_none_open (first_asked t)) (law_cut_by x t))
+
+  law_fitting : (i : ℕ) (o : Option Term) → Law (fitting items metas g d i o)
+  law_fitting i None = law_refuse NoAssumption
+  law_fitting i (Some A) = law_bind (law_renamed from_unification (law_unify (rules_env items) metas (length d.ctx) A d.ty)) (λ more. law_pure (i, more))
+
+  law_first_fitting : (i n : ℕ) → Law (first_fitting items metas g d i n)
+  law_first_fitting i zero = law_refuse NoAssumption
+  law_first_fitting i (suc n) = law_or_else (law_fitting i (type_at (rules_ctx d.ctx) i)) (λ r. law_first_fitting (suc i) n)
+
+  law_assumption : Law (assumption items metas g d)
+  law_assumption = law_bind (law_first_fitting 0 (length d.ctx)) (λ (i, more). law_settled more (Var i) [] [])
+
+  law_restated : (first : Plain) (A : Term) (holes : List (ℕ × ℕ)) → Law (restated items metas g d first A holes)
+  law_restated first A holes = law_bind (law_renamed from_unification (law_declared (rules_env items) first d.ctx A)) (λ more. law_settled more _ _ holes)
+
+  law_change_to : (t : Surface) → Law (change_to items metas g d t)
+  law_change_to t = law_bind (law_check_type t) (λ m. law_restated m.work.metas m.term m.work.holes)
+
+  law_change : (t : Surface) → Law (change items metas g d t)
+  law_change t = law_then (law_none_open (first_asked t)) (law_change_to t)
+
+  law_unfold_by : (a : Text) (M : Term) → Law (unfold_by items metas g d a M)
+  law_unfold_by a M = law_bind (law_opened a M (target items metas g d)) (λ A. law_restated metas A [])
+
+  law_unfold : (a : Text) → Law (unfold_constant items metas g d a)
+  law_unfold a = law_bind (law_body_or (NotDefined a) _) (λ M. law_unfold_by a M)
+
   law_of_step : (m : Move) → Law (step items metas g d m)
   law_of_step (move.Intro x) = law_intro x
   law_of_step (move.Exact t) = law_exact t
   law_of_step (move.Refine t) = law_refine t
   law_of_step (move.Apply t) = law_apply_to t
-  law_of_step (move.Have x t) = law_refuse NotYet
-  law_of_step move.Assumption = law_refuse NotYet
-  law_of_step (move.Change t) = law_refuse NotYet
-  law_of_step (move.Unfold a) = law_refuse NotYet
+  law_of_step (move.Have x t) = law_have x t
+  law_of_step move.Assumption = law_assumption
+  law_of_step (move.Change t) = law_change t
+  law_of_step (move.Unfold a) = law_unfold a
 
 module _ (s : State) (index : ℕ) (auto : Bool) where
   law_ended : (r : Moved) → Law (ended s auto r)

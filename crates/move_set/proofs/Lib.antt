@@ -8,8 +8,16 @@ pub mod AskedEquations
 pub mod Fuel
 pub mod Given
 pub mod Advancing
+pub mod Unfolded
+pub mod UnitsSpent
+pub mod Replaced
+pub mod TypeMoves
+pub mod Weakened
+pub mod Tries
+pub mod AdvancingFurther
 pub mod Following
 pub mod States
 pub mod OnGoals
 pub mod Worked
+pub mod WorkedTypes
 pub mod Introducing

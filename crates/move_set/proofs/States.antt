@@ -38,7 +38,8 @@ use Rattle.elaboration.proofs.Standing.{InSet, IsClosed}
 use Rattle.elaboration.proofs.Sound.{dependency_in}
 use Rattle.move_set.specs.Moves.{Moved, none_open, step, first_open, next_goals, declared_goal, goal_at, after_move, ended, at_goal, read_at_goal, moved}
 use Rattle.move_set.specs.Laws.{IsNeeded, MovingIsLegal, MovingKeeps, MovingHasFootprint, IndependentGoalsStay}
-use Rattle.move_set.proofs.Advancing.{Advances, Ended, step_gives}
+use Rattle.move_set.proofs.Advancing.{Advances, Ended}
+use Rattle.move_set.proofs.AdvancingFurther.{step_gives}
 use Rattle.move_set.proofs.Following.{active, distinct}
 use Rattle.move_set.proofs.Given.{bound}
 

@@ -43,7 +43,7 @@ module _ {items : List (Item Term)} where
     all_asked_of (one_more d e) = or_first (asked_of d) (all_asked_of e)
 
   mutual
-    asked_is : {t : Surface} {e : Elaborates} (d : IsRead items t e) → first_asked t ≡ asked_of d
+    pub asked_is : {t : Surface} {e : Elaborates} (d : IsRead items t e) → first_asked t ≡ asked_of d
     asked_is (is_star {at = at}) = asked_star (node at shape.Star) refl
     asked_is (is_wild {at = at}) = asked_wild (node at shape.Wild) refl
     asked_is (is_asked {at = at}) = asked_asked (node at shape.Asked) refl
@@ -87,7 +87,7 @@ module _ (items : List (Item Term)) (metas : Plain) (g : ℕ) (d : Decl Term) wh
 
 module _ (s : State) (index : ℕ) (text : Text) (units : ℕ) (auto : Bool) {i : Input} {g : ℕ} {d : Decl Term} {o : Outcome State} where
   -- the move that was read, on the goal that was found
-  on_goal : (m : Move) → read text ≡ Ok (m, i) → goal_at s index ≡ Some (g, d) → go_on (step s.items s.metas g d m units) (ended s auto) ≡ o → moved s index text units auto ≡ o
+  pub on_goal : (m : Move) → read text ≡ Ok (m, i) → goal_at s index ≡ Some (g, d) → go_on (step s.items s.metas g d m units) (ended s auto) ≡ o → moved s index text units auto ≡ o
   unfolding moved
   on_goal m q there f = ap (λ (p : Parsed Move). read_at_goal s index auto p units) q ∙ ap (λ p. at_goal s index auto m p units) there ∙ f
 

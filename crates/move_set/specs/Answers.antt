@@ -1,16 +1,18 @@
 -- What calls of a move answer, over a store of terms.
-use Rattle.std.specs.Prelude.{◌≡◌, ◌<◌, ℕ, Bool, true, false, All, Option, Some, None, Result, Ok, Err}
+use Rattle.std.specs.Prelude.{◌≡◌, ◌<◌, ℕ, suc, Bool, true, false, List, All, Option, Some, None, Result, Ok, Err}
 use Rattle.ld_trees.specs.Term.{Term}
 use Rattle.pattern_unify.specs.declared.fault.UnifyFault.{UnifyFault}
 use Rattle.pattern_unify.specs.declared.fault.UnifyFault.TheVariants as unify
+use Rattle.ld_terms.specs.declared.globals.Decl.{Decl}
 use Rattle.conversion.specs.Globals.{IsDeclOf}
 use Rattle.goal_state.specs.State.{State, plain_metas}
 use Rattle.goal_state.specs.StoredState.{StoredState, plain_state}
 use Rattle.unification.specs.Steps.{Gave, Refused, OutOfFuel}
+use Rattle.unification.specs.Refusals.{Plain}
 use Rattle.elaborate.specs.declared.fault.ElabFault.{ElabFault}
 use Rattle.elaborate.specs.declared.fault.ElabFault.TheVariants as elab
 use Rattle.elaborate.specs.Answers.{ShowsElab}
-use Rattle.move_set.specs.Refusals.{Refusal, Outcome, Step, Syntax, NoGoal, NotYet, NameTaken, NotProduct, Unsolved, Elab, TooManyMetas}
+use Rattle.move_set.specs.Refusals.{Refusal, Outcome, Step, Syntax, NoGoal, NameTaken, NotProduct, NoAssumption, NotDefined, NoOccurrence, Unsolved, Elab, TooManyMetas}
 use Rattle.move_set.specs.Applying.{Application}
 use Rattle.move_set.specs.Moves.{Moved}
 use Rattle.move_set.specs.declared.moves.Moved.{Moved as StoredMoved}
@@ -34,9 +36,11 @@ IsInner e = Unit {0}
 abbrev pub Shows : {A H : Type 0} → (H → Type 0) → (H → Term) → Outcome A → ℕ → MoveFault H → Type 0
 Shows holds means o left (fault.Syntax at) = o ≡ Refused (Syntax at) left
 Shows holds means o left (fault.NoGoal index count) = o ≡ Refused (NoGoal index count) left
-Shows holds means o left fault.NotYet = o ≡ Refused NotYet left
 Shows holds means o left (fault.NameTaken name) = o ≡ Refused (NameTaken name) left
 Shows holds means o left fault.NotProduct = o ≡ Refused NotProduct left
+Shows holds means o left fault.NoAssumption = o ≡ Refused NoAssumption left
+Shows holds means o left (fault.NotDefined name) = o ≡ Refused (NotDefined name) left
+Shows holds means o left (fault.NoOccurrence name) = o ≡ Refused (NoOccurrence name) left
 Shows holds means o left (fault.Unsolved at) = o ≡ Refused (Unsolved at) left
 Shows holds means o left (fault.Elab e) = IsInner e × ShowsElab (λ r. Elab r) holds means o left e
 Shows holds means o left fault.TooManyMetas = o ≡ Refused TooManyMetas left
@@ -109,3 +113,12 @@ abbrev pub IsTurn : {H : Type 0} → (H → Type 0) → (H → Term) → (Applic
 IsTurn holds means apply a n left (Ok (turn.Fitted b)) = apply a n ≡ Gave (plain_application means b) left
 IsTurn holds means apply a n left (Ok (turn.Longer b)) = (apply a n ≡ apply (plain_application means b) left) × (left < n)
 IsTurn holds means apply a n left (Err e) = Shows holds means (apply a n) left e
+
+-- ---- tries of `assumption`
+
+-- One entry is tried, of which n others follow. The outcome of trying from it on is that its type fits; or it is that of trying from the
+-- next one on with the units that are left.
+abbrev pub IsTried : {H : Type 0} → (H → Type 0) → (H → Term) → (ℕ → ℕ → Step (ℕ × Plain)) → ℕ → ℕ → ℕ → ℕ → Result (Option (List (Decl H))) (MoveFault H) → Type 0
+IsTried holds means tried i n units left (Ok (Some more)) = tried i (suc n) units ≡ Gave (i, plain_metas means more) left
+IsTried holds means tried i n units left (Ok None) = tried i (suc n) units ≡ tried (suc i) n left
+IsTried holds means tried i n units left (Err e) = Shows holds means (tried i (suc n) units) left e

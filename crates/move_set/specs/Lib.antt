@@ -1,8 +1,10 @@
 pub mod Refusals
 pub mod Asked
+pub mod Replacing
 pub mod Applying
 pub mod Moves
 pub mod Laws
 pub mod Faults
 pub mod Answers
 pub mod Examples
+pub mod FurtherExamples

@@ -1,9 +1,12 @@
 -- The value of a move on a goal of a state: a further state or a refusal, with the units that are left, or no unit where one was to be
 -- spent. It depends on the state, the goal's index, the text, the units and `auto` alone.
-use Rattle.std.specs.Prelude.{ℕ, not, Bool, ◌&&◌, nat_le, if◌then◌else◌, List, [], ◌∷◌, ◌++◌, length, filter, Option, Some, None, option_map, Ok, Err, slice_get}
+use Rattle.std.specs.Prelude.{ℕ, zero, suc, not, Bool, ◌==◌, ◌&&◌, nat_le, if◌then◌else◌, List, [], ◌∷◌, ◌++◌, length, filter, Option, Some, None, option_map, option_and_then, Ok, Err, slice_get}
 use Rattle.std.specs.List.{list_any}
 use Rattle.std.specs.Str.{bytes_eq}
-use Rattle.ld_trees.specs.Term.{Term, Lam}
+use Rattle.ld_trees.specs.Term.{Term, Var, App, Lam}
+use Rattle.ld_trees.specs.Substitution.{weaken}
+use Rattle.ld_rules.specs.Environment.{type_at}
+use Rattle.ld_terms.specs.Items.{item_named}
 use Rattle.ld_terms.specs.declared.globals.Local.{Local}
 use Rattle.ld_terms.specs.declared.globals.Item.{Item}
 use Rattle.ld_terms.specs.declared.globals.Decl.{Decl}
@@ -15,17 +18,19 @@ use Rattle.move_text.specs.declared.moves.Move.{Move}
 use Rattle.move_text.specs.declared.moves.Move.TheVariants as move
 use Rattle.move_text.specs.Reading.{read}
 use Rattle.meta_trees.specs.Dependencies.{below}
-use Rattle.meta_context.specs.Plain.{rules_env}
+use Rattle.meta_context.specs.Plain.{rules_ctx, rules_env}
 use Rattle.meta_laws.specs.Cut.{listed}
-use Rattle.goal_state.specs.State.{State, is_open}
-use Rattle.unification.specs.Steps.{pure, refuse, ◌>>=◌, ◌>>◌, demand}
+use Rattle.meta_laws.specs.Unfolding.{unfold_metas}
+use Rattle.goal_state.specs.State.{State, is_open, rules_metas}
+use Rattle.unification.specs.Steps.{pure, refuse, ◌>>=◌, ◌>>◌, demand, or_else, spend_each}
 use Rattle.unification.specs.Refusals.{Plain}
 use Rattle.unification.specs.Metavariables.{extended, declared}
 use Rattle.unification.specs.Patterns.{over_all}
-use Rattle.unification.specs.Unification.{settle}
-use Rattle.elaboration.specs.Elaboration.{synth, check}
-use Rattle.move_set.specs.Refusals.{Syntax, NoGoal, NotYet, NameTaken, NotProduct, Unsolved, Outcome, Step, elab_step, unify_step}
+use Rattle.unification.specs.Unification.{unify, settle}
+use Rattle.elaboration.specs.Elaboration.{synth, check, check_type}
+use Rattle.move_set.specs.Refusals.{Refusal, Syntax, NoGoal, NameTaken, NotProduct, NoAssumption, NotDefined, NoOccurrence, Unsolved, Outcome, Step, elab_step, unify_step}
 use Rattle.move_set.specs.Asked.{first_asked}
+use Rattle.move_set.specs.Replacing.{occurrences, replaced}
 use Rattle.move_set.specs.Applying.{product_of, apply}
 
 -- what a move has come to: the metavariables, the new goals in order, and the metavariables of the `_` of its text with their places
@@ -40,6 +45,18 @@ moved_to metas fresh holes = record { metas = metas; fresh = fresh; holes = hole
 -- whether an entry has a name
 abbrev pub has_entry : {H : Type 0} → List (Local H) → Text → Bool
 has_entry Γ x = list_any (λ l. bytes_eq l.name x) Γ
+
+-- the body of a definition, or a refusal
+abbrev pub body_or : Refusal → Option Term → Step Term
+body_or r None = refuse r
+body_or r (Some M) = pure M
+
+-- a term with the body M in place of each constant a, for a unit each, or a refusal where there is none
+abbrev pub opened : Text → Term → Term → Step Term
+opened a M t = do
+  spend_each (occurrences a t)
+  demand (not (occurrences a t == 0)) (NoOccurrence a)
+  pure (replaced a M t)
 
 -- no such hole
 abbrev pub none_open : Option ℕ → Step (Unit {0})
@@ -87,13 +104,91 @@ module _ (items : List (Item Term)) (metas : Plain) (g : ℕ) (d : Decl Term) wh
     a ← apply (rules_env items) d (record { metas = m.work.metas; args = []; term = m.term; ty = m.ty })
     settled a.metas a.term (m.work.goals ++ a.args) m.work.holes
 
-  -- the other moves aren't built yet
+  -- where a metavariable with type A has been declared over the context: one with the goal's type is declared over the context extended
+  -- by A, and the goal is settled by the abstraction of the second over A, applied to the first
+  abbrev pub cut_over : Plain → Plain → List (Local Term) → Term → List (ℕ × ℕ) → Step Moved
+  cut_over first more Γ A holes = do
+    second ← unify_step (declared (rules_env items) more Γ (weaken d.ty))
+    settled second (App (Lam A (over_all (length more) (length Γ))) (over_all (length first) (length d.ctx))) (length first ∷ length more ∷ []) holes
+
+  abbrev pub cut : Plain → Text → Term → List (ℕ × ℕ) → Step Moved
+  cut first x A holes = do
+    more ← unify_step (declared (rules_env items) first d.ctx A)
+    Γ ← unify_step (extended (rules_env items) more d.ctx x A)
+    cut_over first more Γ A holes
+
+  -- by the type that a text says
+  abbrev pub cut_by : Text → Surface → Step Moved
+  cut_by x t = do
+    m ← elab_step (check_type items metas d.ctx t)
+    cut m.work.metas x m.term m.work.holes
+
+  -- `have x : t`: the goal is cut in two by the type, with an entry x for it before the goal's type
+  abbrev pub have : Text → Surface → Step Moved
+  have x t = do
+    demand (not (has_entry d.ctx x)) (NameTaken x)
+    none_open (first_asked t)
+    cut_by x t
+
+  -- the type of an entry unified with the goal's
+  abbrev pub fitting : ℕ → Option Term → Step (ℕ × Plain)
+  fitting i None = refuse NoAssumption
+  fitting i (Some A) = do
+    more ← unify_step (unify (rules_env items) metas (length d.ctx) A d.ty)
+    pure (i, more)
+
+  -- the first of so many entries, from variable i on towards the first one entered, of which the type unifies; each refused one is given up
+  abbrev pub first_fitting : ℕ → ℕ → Step (ℕ × Plain)
+  first_fitting i zero = refuse NoAssumption
+  first_fitting i (suc n) = or_else (fitting i (type_at (rules_ctx d.ctx) i)) (λ r. first_fitting (suc i) n)
+
+  -- `assumption`: the goal is settled by the last entry of which the type unifies with the goal's
+  abbrev pub assumption : Step Moved
+  assumption = do
+    (i, more) ← first_fitting 0 (length d.ctx)
+    settled more (Var i) [] []
+
+  -- a metavariable is declared over the context with another type, and the goal is settled by it over all variables
+  abbrev pub restated : Plain → Term → List (ℕ × ℕ) → Step Moved
+  restated first A holes = do
+    more ← unify_step (declared (rules_env items) first d.ctx A)
+    settled more (over_all (length first) (length d.ctx)) (length first ∷ []) holes
+
+  -- the goal as the type that a text says
+  abbrev pub change_to : Surface → Step Moved
+  change_to t = do
+    m ← elab_step (check_type items metas d.ctx t)
+    restated m.work.metas m.term m.work.holes
+
+  -- `change t`: the same without `?`
+  abbrev pub change : Surface → Step Moved
+  change t = none_open (first_asked t) >> change_to t
+
+  -- the goal's type with assigned metavariables unfolded
+  abbrev pub target : Term
+  target = unfold_metas (rules_metas metas) d.ty
+
+  -- the goal as that type with the body M in place of each a
+  abbrev pub unfold_by : Text → Term → Step Moved
+  unfold_by a M = do
+    A ← opened a M target
+    restated metas A []
+
+  -- `unfold a`: the body of the definition a
+  abbrev pub unfold_constant : Text → Step Moved
+  unfold_constant a = do
+    M ← body_or (NotDefined a) (option_and_then (λ i. i.body) (item_named items a))
+    unfold_by a M
+
   abbrev pub step : Move → Step Moved
   step (move.Intro x) = intro x
   step (move.Exact t) = exact t
   step (move.Refine t) = refine t
   step (move.Apply t) = apply_to t
-  step _ = refuse NotYet
+  step (move.Have x t) = have x t
+  step move.Assumption = assumption
+  step (move.Change t) = change t
+  step (move.Unfold a) = unfold_constant a
 
 -- ---- the end of a move
 

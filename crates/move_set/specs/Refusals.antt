@@ -11,12 +11,16 @@ pub data Refusal : Type 0 where
   Syntax : (at : ℕ) → Refusal
   -- the index isn't below the number of active goals
   NoGoal : (index count : ℕ) → Refusal
-  -- a move that isn't built yet
-  NotYet : Refusal
   -- an entry of the goal's context has the name
   NameTaken : (name : Text) → Refusal
   -- the goal's type at weak head form is no product
   NotProduct : Refusal
+  -- no entry of the goal's context has a type that unifies with the goal's
+  NoAssumption : Refusal
+  -- no definition of the environment has the name
+  NotDefined : (name : Text) → Refusal
+  -- the constant doesn't stand in the goal's type
+  NoOccurrence : (name : Text) → Refusal
   -- a `?` where none may stand, or a `_` that is still open at the end of the move
   Unsolved : (at : ℕ) → Refusal
   -- the elaboration of the move's term, or a unification, a declaration or the kernel, refuses

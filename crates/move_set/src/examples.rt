@@ -5,7 +5,7 @@ ghost use Rattle.ld_trees.specs.Term.{Star, Var, App, Lam, Pi};
 ghost use Rattle.unification.specs.Steps.{Gave, Refused, OutOfFuel};
 ghost use Rattle.unification.specs.Refusals.{Mismatch, NotPattern, Cycle};
 ghost use Rattle.elaboration.specs.Refusals.{Unify, UnknownName};
-ghost use Rattle.move_set.specs.Refusals.{Syntax, NoGoal, NotYet, NameTaken, Unsolved, Elab};
+ghost use Rattle.move_set.specs.Refusals.{Syntax, NoGoal, NameTaken, Unsolved, Elab};
 ghost use Rattle.move_set.specs.Moves.{moved};
 ghost use Rattle.move_set.specs.Examples.{
   started,
@@ -35,7 +35,6 @@ pub fn moves_compute()
     ensures too_few { moved started 0 (codes "intro A") 7 true ≡ OutOfFuel }
     ensures syntax { moved started 1 (codes "intro") 0 true ≡ Refused (Syntax 5) 0 }
     ensures no_goal { moved started 1 (codes "exact _") 0 true ≡ Refused (NoGoal 1 1) 0 }
-    ensures not_yet { moved started 0 (codes "assumption") 0 true ≡ Refused NotYet 0 }
     ensures asked { moved started 0 (codes "exact ?") 0 true ≡ Refused (Unsolved 6) 0 }
     ensures unknown { moved started 0 (codes "exact y") 9 true ≡ Refused (Elab (UnknownName 6 (codes "y"))) 8 }
     // a term with redexes stands as it was written

@@ -16,12 +16,16 @@ pub enum MoveFault<H> {
     Syntax { at: u64 },
     /// The index isn't below the number of active goals, which is `count`.
     NoGoal { index: u64, count: u64 },
-    /// A move that isn't built yet.
-    NotYet,
     /// An entry of the goal's context has the name.
     NameTaken { name: Name },
     /// The goal's type at weak head form is no product.
     NotProduct,
+    /// No entry of the goal's context has a type that unifies with the goal's.
+    NoAssumption,
+    /// No definition of the environment has the name. A constant without a body is none.
+    NotDefined { name: Name },
+    /// The definition doesn't stand in the goal's type, with assigned metavariables unfolded.
+    NoOccurrence { name: Name },
     /// A `?` where none may stand, or a `_` that is still open at the end of the move.
     Unsolved { at: u64 },
     /// The elaboration of the move's term is refused, or a unification, a declaration or the kernel. Never `ElabFault::TooManyMetas`,

@@ -38,7 +38,7 @@ pub struct Moved<H: Copy> {
 }
 
 /// Whether an entry has a name.
-fn has_entry<H>(ctx: &[Local<H>], name: &Name) -> bool
+pub fn has_entry<H>(ctx: &[Local<H>], name: &Name) -> bool
     ensures { result ≡ spec.has_entry ctx.now name.now }
 {
     ctx.iter()
@@ -46,7 +46,7 @@ fn has_entry<H>(ctx: &[Local<H>], name: &Name) -> bool
 }
 
 /// Goal g, which is open, is settled by a term.
-fn settled<T: Terms>(
+pub fn settled<T: Terms>(
     alloc: Global,
     terms: &mut T,
     env: &Env<T::Handle>,
@@ -73,7 +73,7 @@ fn settled<T: Terms>(
 }
 
 /// The abstraction over a domain of a metavariable applied to all variables of a context of so many entries.
-fn function_of<T: Terms>(
+pub fn function_of<T: Terms>(
     alloc: Global,
     terms: &mut T,
     domain: T::Handle,

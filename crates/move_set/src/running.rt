@@ -22,9 +22,12 @@ ghost use Rattle.move_set.specs.Answers as answers;
 ghost use Rattle.move_set.specs.declared.fault.MoveFault.TheVariants as fault;
 ghost use Rattle.move_set.specs.Refusals.{Outcome};
 
+use crate::assuming::assumption;
+use crate::cutting::have;
 use crate::fault::{MoveFault, Refused};
 use crate::moves::{Moved, apply_to, exact, intro, refine};
 use crate::next::{first_open, next_goals};
+use crate::restating::{change, unfold};
 use elaborate::ElabFault;
 use goal_state::GoalState;
 use ld_terms::{Fuel, Terms};
@@ -56,7 +59,10 @@ fn make_step<T: Terms>(
         Move::Exact(text) => exact(alloc, terms, env, metas, fuel, g, text),
         Move::Refine(text) => refine(alloc, terms, env, metas, fuel, g, text),
         Move::Apply(text) => apply_to(alloc, terms, env, metas, fuel, g, text),
-        _ => Err(MoveFault::NotYet),
+        Move::Have(name, text) => have(alloc, terms, env, metas, fuel, g, name, text),
+        Move::Assumption => assumption(alloc, terms, env, metas, fuel, g),
+        Move::Change(text) => change(alloc, terms, env, metas, fuel, g, text),
+        Move::Unfold(name) => unfold(alloc, terms, env, metas, fuel, g, name),
     }
 }
 
@@ -198,10 +204,13 @@ fn move_on<T: Terms + Drop>(
 /// The state that a move's text makes of a state, on the active goal at an index, counted from 0, with so many units of fuel.
 ///
 /// `intro x` makes the goal's codomain a new goal, with the entry `x` for its domain; `refine t` settles the goal by a term, whose `?` are new
-/// goals; `exact t` does so without `?`; `apply t` settles it by a term that is applied to new metavariables until its type is the goal's. A
-/// `_` must have a value in the end. With `auto` the active goals are the new ones and then the others that were active and are open still,
-/// in their order; without it the new ones alone. The given state stays as it was. The new one is legal, which is a fact of the type
-/// [`GoalState`].
+/// goals; `exact t` does so without `?`; `apply t` settles it by a term that is applied to new metavariables until its type is the goal's.
+/// `have x : t` makes two new goals, the type and then the goal behind an entry `x` of that type; `assumption` settles the goal by the last
+/// entry whose type unifies with the goal's; `change t` states the goal anew as that type, and `unfold a` as its own type with the body of
+/// the definition `a` in place of each `a`. A `_` must have a value in the end.
+///
+/// With `auto` the active goals are the new ones and then the others that were active and are open still, in their order; without it the new
+/// ones alone. The given state stays as it was. The new one is legal, which is a fact of the type [`GoalState`].
 ///
 /// # Errors
 ///

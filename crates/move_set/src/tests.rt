@@ -14,6 +14,8 @@ use std::alloc::{AllocError, Global};
 use std::test::Fail;
 use term_text::{read_term, scope_term};
 
+mod further;
+
 const IDENTITY_TYPE: &[u8] = b"(A : *) -> A -> A";
 
 /// A function of two arguments and an argument for it.
@@ -91,9 +93,10 @@ enum Answer {
     Made,
     Syntax(u64),
     NoGoal(u64, u64),
-    NotYet,
     NameTaken,
     NotProduct,
+    NoAssumption,
+    NotDefined,
     Unsolved(u64),
     UnknownName(u64),
     /// At this depth, beside a store.
@@ -111,9 +114,10 @@ fn refusal_of<T: Terms + Drop>(refused: &Refused<T>) -> Answer {
         (MoveFault::Elab(ElabFault::UnknownName { at, .. }), false) => Answer::UnknownName(*at),
         (MoveFault::Syntax { at }, false) => Answer::Syntax(*at),
         (MoveFault::NoGoal { index, count }, false) => Answer::NoGoal(*index, *count),
-        (MoveFault::NotYet, false) => Answer::NotYet,
         (MoveFault::NameTaken { .. }, false) => Answer::NameTaken,
         (MoveFault::NotProduct, false) => Answer::NotProduct,
+        (MoveFault::NoAssumption, false) => Answer::NoAssumption,
+        (MoveFault::NotDefined { .. }, false) => Answer::NotDefined,
         (MoveFault::Unsolved { at }, false) => Answer::Unsolved(*at),
         (MoveFault::Fuel, false) => Answer::Fuel,
         _ => Answer::Other,
@@ -308,7 +312,6 @@ fn refuses_in_order<T: Terms + Drop>(alloc: Global, state: &Option<GoalState<T>>
         && answer_to(alloc, state, 1, b" nope", 0) == Answer::Syntax(1)
         && answer_to(alloc, state, 1, b"exact ?", 0) == Answer::NoGoal(1, 1)
         && answer_to(alloc, state, 0, b"exact ?", 0) == Answer::Unsolved(6)
-        && answer_to(alloc, state, 0, b"assumption", 0) == Answer::NotYet
         && answer_to(alloc, state, 0, b"intro x", 0) == Answer::NameTaken
         && answer_to(alloc, state, 0, b"intro y", 0) == Answer::NotProduct
         && answer_to(alloc, state, 0, b"exact y", 0) == Answer::Fuel

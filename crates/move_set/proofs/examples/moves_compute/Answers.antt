@@ -33,10 +33,6 @@ pub returns-clause-no_goal : goal.returns-clause-no_goal
 unfolding moved read finish form name term whole abstraction product arrows app applied atoms atoms_from atom parenthesized constant arguments arguments_from binder label_at level_of expect eat is_kind lexemes token
 returns-clause-no_goal c = refl
 
-pub returns-clause-not_yet : goal.returns-clause-not_yet
-unfolding moved read finish form name term whole abstraction product arrows app applied atoms atoms_from atom parenthesized constant arguments arguments_from binder label_at level_of expect eat is_kind lexemes token
-returns-clause-not_yet c = refl
-
 pub returns-clause-exact : goal.returns-clause-exact
 unfolding read finish form name term whole abstraction product arrows app applied atoms atoms_from atom parenthesized constant arguments arguments_from binder label_at level_of expect eat is_kind lexemes token
 returns-clause-exact c = settles _ _ _ _ _ refl refl is_named refl refl

@@ -27,3 +27,27 @@ returns-in-Apply-clause-value g c Δ Σ d r there =
     let h1 = g.T.Terms.holds c.apply_to.new.terms in
     let m1 = g.T.Terms.means c.apply_to.new.terms in
     subst (λ (m : Move). Answers h1 m1 (plain_moved m1) (step Δ Σ c.args.g d m c.args.fuel.now) c.apply_to.new.fuel c.apply_to.result) (sym c.in-Apply.is) (c.apply_to.ensures.value Δ Σ d r there)
+
+pub returns-in-Have-clause-value : goal.returns-in-Have-clause-value
+returns-in-Have-clause-value g c Δ Σ d r there =
+    let h1 = g.T.Terms.holds c.have.new.terms in
+    let m1 = g.T.Terms.means c.have.new.terms in
+    subst (λ (m : Move). Answers h1 m1 (plain_moved m1) (step Δ Σ c.args.g d m c.args.fuel.now) c.have.new.fuel c.have.result) (sym c.in-Have.is) (c.have.ensures.value Δ Σ d r there)
+
+pub returns-in-Assumption-clause-value : goal.returns-in-Assumption-clause-value
+returns-in-Assumption-clause-value g c Δ Σ d r there =
+    let h1 = g.T.Terms.holds c.assumption.new.terms in
+    let m1 = g.T.Terms.means c.assumption.new.terms in
+    subst (λ (m : Move). Answers h1 m1 (plain_moved m1) (step Δ Σ c.args.g d m c.args.fuel.now) c.assumption.new.fuel c.assumption.result) (sym c.in-Assumption.is) (c.assumption.ensures.value Δ Σ d r there)
+
+pub returns-in-Change-clause-value : goal.returns-in-Change-clause-value
+returns-in-Change-clause-value g c Δ Σ d r there =
+    let h1 = g.T.Terms.holds c.change.new.terms in
+    let m1 = g.T.Terms.means c.change.new.terms in
+    subst (λ (m : Move). Answers h1 m1 (plain_moved m1) (step Δ Σ c.args.g d m c.args.fuel.now) c.change.new.fuel c.change.result) (sym c.in-Change.is) (c.change.ensures.value Δ Σ d r there)
+
+pub returns-in-Unfold-clause-value : goal.returns-in-Unfold-clause-value
+returns-in-Unfold-clause-value g c Δ Σ d r there =
+    let h1 = g.T.Terms.holds c.unfold.new.terms in
+    let m1 = g.T.Terms.means c.unfold.new.terms in
+    subst (λ (m : Move). Answers h1 m1 (plain_moved m1) (step Δ Σ c.args.g d m c.args.fuel.now) c.unfold.new.fuel c.unfold.result) (sym c.in-Unfold.is) (c.unfold.ensures.value Δ Σ d r there)
