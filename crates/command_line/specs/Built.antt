@@ -1,17 +1,12 @@
 -- What of the forms this program serves so far. Words of the rest are refused like any others.
-use Rattle.std.specs.Prelude.{List, [], ◌∷◌, Bool, false, not, ◌&&◌, ◌||◌, ◌==◌, codes}
+use Rattle.std.specs.Prelude.{List, [], ◌∷◌, Bool, false, ◌||◌, codes}
 use Rattle.std.specs.Str.{bytes_eq}
-use Rattle.std.specs.List.{list_all, starts_with}
 use Rattle.command_line.specs.Given.{Text}
 
 -- the subcommands
 abbrev pub is_built_name : Text → Bool
 is_built_name name = bytes_eq name (codes "run") || bytes_eq name (codes "check")
 
--- `--workers` is not built
-abbrev pub is_built_word : Text → Bool
-is_built_word word = not (starts_with (λ a b. a == b) word (codes "--workers"))
-
 abbrev pub is_built : List Text → Bool
 is_built [] = false
-is_built (name ∷ words) = is_built_name name && list_all is_built_word words
+is_built (name ∷ words) = is_built_name name

@@ -2,6 +2,7 @@
 pub mod Given
 pub mod Built
 pub mod Form
+pub mod Range
 pub mod Seen
 pub mod Parsed
 pub mod Usage

@@ -3,5 +3,5 @@ use Rattle.std.specs.Prelude.{ℕ, List, ◌++◌, codes}
 
 abbrev pub usage_note : List ℕ
 usage_note =
-    codes "usage: panto run [--book FILE] [--entries N]\n"
+    codes "usage: panto run [--book FILE] [--entries N] [--workers N]\n"
     ++ codes "       panto check FILE\n"

@@ -27,6 +27,8 @@ WorkedForms =
     -- the least and the greatest number, and leading zeros
     × Has (codes "run --entries 0000003") (Some (run None 3 1))
     × Has (codes "run --entries 1048576") (Some (run None 1048576 1))
+    × Has (codes "run --workers=64") (Some (run None 65536 64))
+    × Has (codes "run --workers 2 --book a --entries 3") (Some (run (Some (codes "a")) 3 2))
 
 abbrev pub WorkedRefusals : Type 0
 WorkedRefusals =
@@ -47,6 +49,8 @@ WorkedRefusals =
     × Has (codes "run --entries 1048577") None
     × Has (codes "run --entries 00000003") None
     × Has (codes "run --entries +3") None
+    × Has (codes "run --workers 0") None
+    × Has (codes "run --workers 65") None
     -- words that are refused before anything else
     × Has (codes "check -- x") None
     × Has (codes "check -") None
@@ -54,14 +58,12 @@ WorkedRefusals =
     × Has (codes "check a=") None
     × Has (codes "check ") None
     -- what is not built
-    × Has (codes "run --workers 2") None
+    × Has (codes "serve --listen a:1") None
     × Has (codes "demo 7 1") None
 
 abbrev pub WorkedLater : Type 0
 WorkedLater =
-    WillHave (codes "run --workers=64") (Some (run None 65536 64))
-    × WillHave (codes "run --workers 65") None
-    × WillHave (codes "serve --sessions 2 --listen a:1") (Some (serve (codes "a:1") None 65536 1 2))
+    WillHave (codes "serve --sessions 2 --listen a:1") (Some (serve (codes "a:1") None 65536 1 2))
     × WillHave (codes "serve --book b --listen a:1 --workers 3 --entries 4") (Some (serve (codes "a:1") (Some (codes "b")) 4 3 1))
     × WillHave (codes "serve --book b") None
     × WillHave (codes "demo 007 01") (Some (demo 7 1))

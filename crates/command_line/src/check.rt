@@ -1,9 +1,10 @@
 //! `check FILE`.
 
-ghost use Rattle.std.specs.Prelude.{◌≡◌, true, map, IfOk, option_map, string_bytes};
+ghost use Rattle.std.specs.Prelude.{◌≡◌, true, map, IfOk, IfSome, option_map, string_bytes};
 ghost use Rattle.command_line.specs.Given.{are_words, places};
 ghost use Rattle.command_line.specs.Form.{check_of, check_places};
 ghost use Rattle.command_line.specs.Parsed.{Parses};
+ghost use Rattle.command_line.specs.Range.{IsInRange};
 ghost use Rattle.command_line.specs.Seen.{seen};
 
 use crate::parts::{leaf, place, refused};
@@ -14,7 +15,8 @@ use std::alloc::{AllocError, Global};
 /// The form of the words after `check`.
 pub fn read_check<'a>(alloc: Global, words: &'a [String]) -> Result<Option<Form<'a>>, AllocError>
     requires { are_words (map string_bytes words.now) ≡ true }
-    ensures { IfOk result (λ o. option_map seen o ≡ check_of (map string_bytes words.now)) }
+    ensures form { IfOk result (λ o. option_map seen o ≡ check_of (map string_bytes words.now)) }
+    ensures range { IfOk result (λ o. IfSome o (λ form. IsInRange (seen form))) }
 {
     let found = match parse_check(alloc, words) {
         Ok(found) => found,

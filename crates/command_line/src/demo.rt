@@ -1,9 +1,10 @@
 //! `demo SEED COUNT`.
 
-ghost use Rattle.std.specs.Prelude.{◌≡◌, true, map, IfOk, option_map, string_bytes};
+ghost use Rattle.std.specs.Prelude.{◌≡◌, true, map, IfOk, IfSome, option_map, string_bytes};
 ghost use Rattle.command_line.specs.Given.{are_words, places};
 ghost use Rattle.command_line.specs.Form.{demo_of, demo_places};
 ghost use Rattle.command_line.specs.Parsed.{Parses};
+ghost use Rattle.command_line.specs.Range.{IsInRange};
 ghost use Rattle.command_line.specs.Seen.{seen};
 
 use crate::numbers::{MAX_DIGITS, MAX_SEED_DIGITS, number, ranged};
@@ -15,7 +16,8 @@ use std::alloc::{AllocError, Global};
 /// The form of the words after `demo`.
 pub fn read_demo<'a>(alloc: Global, words: &'a [String]) -> Result<Option<Form<'a>>, AllocError>
     requires { are_words (map string_bytes words.now) ≡ true }
-    ensures { IfOk result (λ o. option_map seen o ≡ demo_of (map string_bytes words.now)) }
+    ensures form { IfOk result (λ o. option_map seen o ≡ demo_of (map string_bytes words.now)) }
+    ensures range { IfOk result (λ o. IfSome o (λ form. IsInRange (seen form))) }
 {
     let found = match parse_demo(alloc, words) {
         Ok(found) => found,

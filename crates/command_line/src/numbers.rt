@@ -1,6 +1,6 @@
 //! Numbers in words.
 
-ghost use Rattle.std.specs.Prelude.{◌≡◌, ◌≤◌, option_map};
+ghost use Rattle.std.specs.Prelude.{◌≡◌, ◌<◌, ◌≤◌, option_map, IfSome};
 ghost use Rattle.std.specs.List.{list_all};
 ghost use Rattle.std.specs.Char.{is_ascii_digit};
 ghost use Rattle.command_line.specs.Given.{number, ranged, number_or};
@@ -30,7 +30,8 @@ fn is_digits(text: &str) -> bool
 
 /// The number, where it lies in the range.
 pub fn ranged(number: Option<u64>, least: u32, most: u32) -> Option<u32>
-    ensures { result ≡ ranged least most number }
+    ensures within { IfSome result (λ n. (least ≤ n) × (n ≤ most)) }
+    ensures value { result ≡ ranged least most number }
 {
     match number {
         Some(n) if least as u64 <= n && n <= most as u64 => Some(n as u32),
@@ -40,7 +41,9 @@ pub fn ranged(number: Option<u64>, least: u32, most: u32) -> Option<u32>
 
 /// The number of an option, from 1 up, or the default where the option is missing.
 pub fn number_or(text: Option<&str>, default: u32, most: u32) -> Option<u32>
-    ensures { result ≡ number_or default most (option_map (λ s. s.now) text.entry) }
+    requires { (0 < default) × (default ≤ most) }
+    ensures within { IfSome result (λ n. (0 < n) × (n ≤ most)) }
+    ensures value { result ≡ number_or default most (option_map (λ s. s.now) text.entry) }
 {
     match text {
         Some(text) => ranged(number(text, MAX_DIGITS), 1, most),

@@ -1,9 +1,8 @@
 //! Words that are refused before they are parsed.
 
 ghost use Rattle.std.specs.Prelude.{◌≡◌, map, string_bytes};
-ghost use Rattle.std.specs.List.{list_all};
 ghost use Rattle.command_line.specs.Given.{is_word, are_words};
-ghost use Rattle.command_line.specs.Built.{is_built, is_built_name, is_built_word};
+ghost use Rattle.command_line.specs.Built.{is_built, is_built_name};
 
 /// Whether no word is empty, `-` or `--`, or ends in `=`. `clap` alone would take some of these.
 pub fn are_words(words: &[String]) -> bool
@@ -29,7 +28,7 @@ pub fn is_built(words: &[String]) -> bool
 {
     match words.split_first() {
         None => false,
-        Some((name, rest)) => is_built_name(name.as_str()) && are_built(rest),
+        Some((name, _)) => is_built_name(name.as_str()),
     }
 }
 
@@ -37,21 +36,4 @@ fn is_built_name(name: &str) -> bool
     ensures { result ≡ is_built_name name.now }
 {
     name == "run" || name == "check"
-}
-
-fn are_built(words: &[String]) -> bool
-    ensures { result ≡ list_all is_built_word (map string_bytes words.now) }
-{
-    for word in words {
-        if !is_built_word(word.as_str()) {
-            return false;
-        }
-    }
-    true
-}
-
-fn is_built_word(word: &str) -> bool
-    ensures { result ≡ is_built_word word.now }
-{
-    !word.as_bytes().starts_with(b"--workers")
 }

@@ -1,9 +1,10 @@
 //! `run [--book FILE] [--entries N] [--workers N]`.
 
-ghost use Rattle.std.specs.Prelude.{◌≡◌, true, map, [], IfOk, option_map, string_bytes};
+ghost use Rattle.std.specs.Prelude.{◌≡◌, true, map, [], IfOk, IfSome, option_map, string_bytes};
 ghost use Rattle.command_line.specs.Given.{are_words, options};
 ghost use Rattle.command_line.specs.Form.{run_of, run_options};
 ghost use Rattle.command_line.specs.Parsed.{Parses};
+ghost use Rattle.command_line.specs.Range.{IsInRange};
 ghost use Rattle.command_line.specs.Seen.{seen};
 
 use crate::numbers::number_or;
@@ -15,7 +16,8 @@ use std::alloc::{AllocError, Global};
 /// The form of the words after `run`.
 pub fn read_run<'a>(alloc: Global, words: &'a [String]) -> Result<Option<Form<'a>>, AllocError>
     requires { are_words (map string_bytes words.now) ≡ true }
-    ensures { IfOk result (λ o. option_map seen o ≡ run_of (map string_bytes words.now)) }
+    ensures form { IfOk result (λ o. option_map seen o ≡ run_of (map string_bytes words.now)) }
+    ensures range { IfOk result (λ o. IfSome o (λ form. IsInRange (seen form))) }
 {
     let found = match parse_run(alloc, words) {
         Ok(found) => found,

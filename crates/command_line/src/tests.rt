@@ -29,6 +29,14 @@ fn words_have_their_forms(rt: HostRuntime) -> Result<(), Fail> {
         ("run --book=a=b", run(Some("a=b"), 65_536)),
         ("run --book=-x", run(Some("-x"), 65_536)),
         ("run --entries 0000003", run(None, 3)),
+        (
+            "run --workers 64",
+            Some(Form::Run {
+                book: None,
+                entries: 65_536,
+                workers: 64,
+            }),
+        ),
         ("check a", Some(Form::Check { file: "a" })),
         ("run --entries 0", None),
         ("run --entries 1048577", None),
@@ -37,7 +45,8 @@ fn words_have_their_forms(rt: HostRuntime) -> Result<(), Fail> {
         ("run --entries 3 --entries 4", None),
         ("run --book -x", None),
         ("run --book", None),
-        ("run --workers 1", None),
+        ("run --workers 0", None),
+        ("run --workers 65", None),
         ("check", None),
         ("check a b", None),
         ("check -- x", None),
@@ -56,14 +65,6 @@ fn words_have_their_forms(rt: HostRuntime) -> Result<(), Fail> {
 fn forms_that_are_not_built_are_read(rt: HostRuntime) -> Result<(), Fail> {
     let rows = [
         (
-            "run --workers 64",
-            Some(Form::Run {
-                book: None,
-                entries: 65_536,
-                workers: 64,
-            }),
-        ),
-        (
             "serve --book b --listen a:1 --workers 3 --entries 4 --sessions=2",
             Some(Form::Serve {
                 listen: "a:1",
@@ -74,7 +75,6 @@ fn forms_that_are_not_built_are_read(rt: HostRuntime) -> Result<(), Fail> {
             }),
         ),
         ("demo 007 01", Some(Form::Demo { seed: 7, count: 1 })),
-        ("run --workers 65", None),
         ("serve --book b", None),
         ("demo 7 10001", None),
     ];

@@ -1,8 +1,9 @@
 //! The forms of the command line.
 
-ghost use Rattle.std.specs.Prelude.{◌≡◌, true, map, IfOk, option_map, string_bytes};
+ghost use Rattle.std.specs.Prelude.{◌≡◌, true, map, IfOk, IfSome, option_map, string_bytes};
 ghost use Rattle.command_line.specs.Given.{are_words};
 ghost use Rattle.command_line.specs.Form.{form_of, any_form_of, after_subcommand};
+ghost use Rattle.command_line.specs.Range.{IsInRange};
 ghost use Rattle.command_line.specs.Seen.{seen};
 
 use crate::check::read_check;
@@ -45,7 +46,9 @@ pub enum Form<'a> {
 /// The form that the words after the program's name have; `None` where they are refused. Options
 /// stand in any order, each at most once, as two words or with `=`. Fails for want of memory.
 pub fn read_words<'a>(alloc: Global, words: &'a [String]) -> Result<Option<Form<'a>>, AllocError>
-    ensures { IfOk result (λ o. option_map seen o ≡ form_of (map string_bytes words.now)) }
+    ensures form { IfOk result (λ o. option_map seen o ≡ form_of (map string_bytes words.now)) }
+    // Each number is in its range.
+    ensures range { IfOk result (λ o. IfSome o (λ form. IsInRange (seen form))) }
 {
     if !is_built(words) {
         return Ok(None);
@@ -55,7 +58,8 @@ pub fn read_words<'a>(alloc: Global, words: &'a [String]) -> Result<Option<Form<
 
 /// The form that the words have, be it built or not.
 pub fn read_any<'a>(alloc: Global, words: &'a [String]) -> Result<Option<Form<'a>>, AllocError>
-    ensures { IfOk result (λ o. option_map seen o ≡ any_form_of (map string_bytes words.now)) }
+    ensures form { IfOk result (λ o. option_map seen o ≡ any_form_of (map string_bytes words.now)) }
+    ensures range { IfOk result (λ o. IfSome o (λ form. IsInRange (seen form))) }
 {
     if !are_words(words) {
         return Ok(None);
@@ -73,7 +77,8 @@ fn read_form<'a>(
     words: &'a [String],
 ) -> Result<Option<Form<'a>>, AllocError>
     requires { are_words (map string_bytes words.now) ≡ true }
-    ensures { IfOk result (λ o. option_map seen o ≡ after_subcommand name.now (map string_bytes words.now)) }
+    ensures form { IfOk result (λ o. option_map seen o ≡ after_subcommand name.now (map string_bytes words.now)) }
+    ensures range { IfOk result (λ o. IfSome o (λ form. IsInRange (seen form))) }
 {
     match name {
         "run" => read_run(alloc, words),

@@ -1,4 +1,5 @@
 pub mod Fit
+pub mod MadeLemmas
 pub mod AnswerLemmas
 pub mod InputLemmas
 pub mod SessionLemmas

@@ -9,14 +9,14 @@ ghost use Rattle.state_tree.specs.Again.{is_bad};
 ghost use Rattle.state_tree.specs.Enters.{tree_of};
 ghost use Rattle.session_server.specs.Answers.{Answers, IsFit, AreFit, requests_in_readies};
 
-use crate::prepare::look_up;
+use crate::prepare::prepare;
 use pan_io::{Failed, Sink};
 use repl_json::{Line, Request, finish_line};
 use state_tree::{Outcome, Ready, Tree, Work};
 use std::alloc::Global;
 
 /// The number of the pass that enters, where a session has the tree alone.
-const PASS: u32 = 0;
+pub const PASS: u32 = 0;
 
 /// Why requests were not answered.
 #[derive(Debug, Clone, Copy, PartialEq, Eq, Drop)]
@@ -54,7 +54,7 @@ fn enter_again<W: Work, K: Sink>(
     ensures later { K.faults sink.old ≤ K.faults sink.new }
     ensures rose { result ≡ Err Halt.Write → Rose (K.faults sink.old) (K.faults sink.new) }
 {
-    let ready = look_up(alloc, work, tree, request);
+    let ready = prepare(alloc, work, tree, request);
     match tree.enter(PASS, ready) {
         Outcome::Entered(line) => match send(&line, sink) {
             Ok(()) => Ok(()),

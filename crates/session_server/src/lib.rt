@@ -1,15 +1,17 @@
 //! A session: the requests of an input are entered into a tree, line by line, and their replies written.
 //!
-//! The requests of a line are first made ready, each with its own look and work, and then entered in their order. Each reply is
-//! written and flushed before the next line is read.
+//! The requests of a line are first looked up. Then their work is done side by side by a number of workers, and what is ready is
+//! entered in the order of the requests, whichever work was done first. Each reply is written and flushed before the next line is read.
 #![tactic(auto)]
 
 mod answer;
+mod job;
 mod line;
 mod prepare;
 mod run;
 #[cfg(test)]
 mod tests;
 mod worked_rows;
+mod workers;
 
 pub use run::{End, run_session};

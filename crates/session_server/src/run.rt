@@ -1,6 +1,6 @@
 //! The loop over the lines of an input.
 
-ghost use Rattle.std.specs.Prelude.{◌≡◌, ◌≤◌, ◌^◌, List, ℕ, length, Option, ◌⊎◌, is_some};
+ghost use Rattle.std.specs.Prelude.{◌≡◌, ◌<◌, ◌≤◌, ◌^◌, List, ℕ, length, Option, ◌⊎◌, is_some};
 ghost use Rattle.pan_io.specs.Faults.{Rose};
 ghost use Rattle.state_tree.specs.TreeModel.{TreeModel};
 ghost use Rattle.state_tree.specs.declared.work.Entry.{Entry};
@@ -11,9 +11,12 @@ ghost use Rattle.session_server.specs.Progress.{Runs, Steps, step_of};
 
 use crate::answer::Halt;
 use crate::line::{answer_line, answer_long};
+use crate::workers::Workers;
 use pan_io::{Lines, Sink, Source, Stop, Taken};
 use state_tree::{Tree, Work};
 use std::alloc::Global;
+use std::thread::Threads;
+use worker_gate::Gate;
 
 /// How a session ended.
 #[derive(Debug, Clone, Copy, PartialEq, Eq, Drop)]
@@ -53,14 +56,16 @@ fn settle(answered: Result<(), Halt>) -> Step
 }
 
 /// Takes a line and answers it.
-fn answer_next<W: Work, S: Source, K: Sink>(
-    alloc: Global,
-    work: &W,
+fn answer_next<R: Threads + Sync, W: Work + Sync, S: Source, K: Sink, G: Gate>(
+    workers: &Workers<'_, R, W, G>,
     tree: &mut Tree<W>,
     lines: &mut Lines,
     source: &mut S,
     sink: &mut K,
 ) -> Step
+where
+    W::Env: Send,
+    W::State: Send,
     ensures step { (start out : Option (List ℕ)) (first : TreeModel W.Env) →
         Runs W.value start (S.left source.old) first tree.old out (K.taken sink.old) lines.old →
         Steps W.value start (S.left source.new) first tree.new out (K.taken sink.new) lines.old lines.new result }
@@ -74,8 +79,8 @@ fn answer_next<W: Work, S: Source, K: Sink>(
     ensures write { result ≡ Step.Stop End.WriteFault → Rose (K.faults sink.old) (K.faults sink.new) }
 {
     match lines.take(source) {
-        Taken::Line => settle(answer_line(alloc, work, tree, lines.line(), sink)),
-        Taken::TooLong(len) => settle(answer_long(alloc, work, tree, len, sink)),
+        Taken::Line => settle(answer_line(workers, tree, lines.line(), sink)),
+        Taken::TooLong(len) => settle(answer_long(workers, tree, len, sink)),
         Taken::End => Step::Stop(End::Done),
         Taken::ReadFault => Step::Stop(End::ReadFault),
         Taken::Long(bytes) => Step::Stop(End::Long { bytes }),
@@ -84,16 +89,26 @@ fn answer_next<W: Work, S: Source, K: Sink>(
 
 /// Answers the requests of an input, as pass 0, until the input ends or the session can't go on.
 ///
+/// The requests of a line are made ready by 1 to 64 workers, each on a thread of its own where one can be started. The gate is told of
+/// each under the number 0, by its position in its line, before its work is done.
+///
 /// The entries added are, in order and each once, requests of the input by the end: at `Done` all of them. What was written is the
 /// replies of the one-thread server to these entries, a line each, so that the memory lines in it tell which entries say `Memory`. The
 /// book and the number of entries stay.
-pub fn run_session<W: Work, S: Source, K: Sink>(
+pub fn run_session<R: Threads + Sync, W: Work + Sync, S: Source, K: Sink, G: Gate>(
+    rt: &R,
     alloc: Global,
     work: &W,
     tree: &mut Tree<W>,
+    workers: u32,
     source: &mut S,
     sink: &mut K,
+    gate: &G,
 ) -> End
+where
+    W::Env: Send,
+    W::State: Send,
+    requires { (0 < workers) × (workers ≤ 64) }
     // Which entries were added and what was written, by the end. It is never `Worn`.
     ensures session { Session W.value (S.left source.old) (S.left source.new) tree.old tree.new (K.taken sink.old) (K.taken sink.new) result }
     // Which of them say `Memory`: exactly those whose lines are memory lines.
@@ -113,8 +128,15 @@ pub fn run_session<W: Work, S: Source, K: Sink>(
     let Ok(mut lines) = Lines::new(alloc) else {
         return End::Memory;
     };
+    let workers = Workers {
+        rt,
+        alloc,
+        work,
+        count: workers,
+        gate,
+    };
     'lines: loop {
-        match answer_next(alloc, work, tree, &mut lines, source, sink) {
+        match answer_next(&workers, tree, &mut lines, source, sink) {
             Step::Next => {}
             Step::Stop(end) => {
                 let _length = tree.length();

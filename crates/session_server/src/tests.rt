@@ -6,6 +6,8 @@ ghost use Rattle.state_tree.specs.Toy.{said_body};
 ghost use Rattle.state_tree.specs.ToyReplies.{said_is_reply};
 ghost use Rattle.state_tree.specs.Value.{Says};
 
+mod tries;
+
 use crate::{End, run_session};
 use ld_terms::List;
 use pan_io::{Failed, MemorySink, MemorySource, Sink, Source};
@@ -14,6 +16,8 @@ use state_tree::{Found, Tree, Work, Worked};
 use std::alloc::{AllocError, Global};
 use std::cell::Cell;
 use std::test::Fail;
+use std::thread::Threads;
+use worker_gate::OpenGate;
 
 struct Toy;
 
@@ -63,10 +67,15 @@ struct Left {
 }
 
 /// A session over a tree of ten entries at most. The sink takes three bytes a call, and so many in all.
-fn session(alloc: Global, source: &mut MemorySource, room: usize) -> Result<Left, AllocError> {
+fn session<R: Threads + Sync>(
+    rt: &R,
+    alloc: Global,
+    source: &mut MemorySource,
+    room: usize,
+) -> Result<Left, AllocError> {
     let mut tree = Tree::<Toy>::open(alloc, 7, 10)?;
     let mut sink = MemorySink::new(alloc, 3, room, Vec::new(alloc));
-    let end = run_session(alloc, &Toy, &mut tree, source, &mut sink);
+    let end = run_session(rt, alloc, &Toy, &mut tree, 1, source, &mut sink, &OpenGate);
     Ok(Left {
         end,
         output: Vec::from_slice(alloc, sink.bytes())?,
@@ -92,6 +101,7 @@ fn each_line_is_answered(rt: HostRuntime) -> Result<(), Fail> {
         b"env.catalog {\"envId\":0}\r\n\n \t\nenv.catalog {\"envId\":1}\nnope {}\nstat {\"after\":9}\nstat";
     for piece in [1, 7, 1000] {
         let left = session(
+            &rt,
             alloc,
             &mut source(alloc, bytes, piece, Vec::new(alloc))?,
             1000,
@@ -112,6 +122,7 @@ fn long_line_is_answered_by_its_length(rt: HostRuntime) -> Result<(), Fail> {
     let mut bytes = vec![in alloc; b' '; 65_537]?;
     bytes.extend_from_slice(b"\nstat\n")?;
     let left = session(
+        &rt,
         alloc,
         &mut source(alloc, &bytes, 5000, Vec::new(alloc))?,
         1000,
@@ -130,7 +141,16 @@ fn full_tree_ends_the_session(rt: HostRuntime) -> Result<(), Fail> {
     let mut tree = Tree::<Toy>::open(alloc, 7, 3)?;
     let mut source = source(alloc, b"stat\nstat\nstat\nstat", 4, Vec::new(alloc))?;
     let mut sink = MemorySink::new(alloc, 100, 1000, Vec::new(alloc));
-    let end = run_session(alloc, &Toy, &mut tree, &mut source, &mut sink);
+    let end = run_session(
+        &rt,
+        alloc,
+        &Toy,
+        &mut tree,
+        1,
+        &mut source,
+        &mut sink,
+        &OpenGate,
+    );
     assert_eq!(rt; end, End::Full { entries: 3 });
     assert_eq!(rt; tree.length(), 3);
     Ok(())
@@ -144,6 +164,7 @@ fn source_fails_at_each_call(rt: HostRuntime) -> Result<(), Fail> {
     for (call, entries) in rows {
         let failing = vec![in alloc; call]?;
         let left = session(
+            &rt,
             alloc,
             &mut source(alloc, b"stat\nnope\n", 4, failing)?,
             1000,
@@ -161,6 +182,7 @@ fn sink_fails_at_each_byte(rt: HostRuntime) -> Result<(), Fail> {
         b"{\"envs\":1,\"live\":0,\"seq\":0,\"states\":0}\n{\"envs\":1,\"live\":0,\"seq\":1,\"states\":0}\n";
     for room in 0..both.len() {
         let left = session(
+            &rt,
             alloc,
             &mut source(alloc, b"stat\nstat", 9, Vec::new(alloc))?,
             room,
@@ -229,7 +251,16 @@ fn each_reply_is_flushed_before_the_next_read(rt: HostRuntime) -> Result<(), Fai
         given: 0,
     };
     let mut sink = Counting { flushes: &flushes };
-    let end = run_session(alloc, &Toy, &mut tree, &mut source, &mut sink);
+    let end = run_session(
+        &rt,
+        alloc,
+        &Toy,
+        &mut tree,
+        1,
+        &mut source,
+        &mut sink,
+        &OpenGate,
+    );
     assert_eq!(rt; end, End::Done);
     assert_eq!(rt; flushes.get(), 5);
     Ok(())

@@ -11,7 +11,7 @@ ghost use Rattle.session_server.specs.Entered.{output_of};
 ghost use Rattle.session_server.specs.Input.{requests_of_line, requests_of_lines, requests_of_input, too_long};
 
 /// The requests of inputs.
-#[tactic(auto, unfolding(crate::specs::Input::requests_of_line, pan_io::specs::Text::lines_of, pan_io::specs::Text::whole_lines_of, repl_json::specs::Request::requests_of, repl_json::specs::Request::requests_by, repl_json::specs::Command::command_named, repl_json::specs::Command::goal_command_named, repl_json::specs::Command::is_built, repl_json::specs::Table::asked, repl_json::specs::Field::value_in))]
+#[tactic(auto, unfolding(crate::specs::Input::requests_of_line, pan_io::specs::Text::lines_of, pan_io::specs::Text::whole_lines_of, repl_json::specs::Request::requests_of, repl_json::specs::Request::requests_by, repl_json::specs::Command::command_named, repl_json::specs::Command::goal_command_named, repl_json::specs::Table::asked, repl_json::specs::Field::value_in))]
 fn requests_compute()
     ensures nothing { requests_of_input [] ≡ [] }
     ensures blank { requests_of_input (codes "   \n") ≡ [] }

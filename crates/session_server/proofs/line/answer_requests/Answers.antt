@@ -8,4 +8,4 @@ pub returns-clause-answers : goal.returns-clause-answers
 returns-clause-answers g c =
     answers_line g.W.Work.value _ _ _ _ _ c.enter_all.result
     (subst (λ (rs : List Request). Answers g.W.Work.value c.args.tree.now c.enter_all.new.tree (g.K.Sink.taken c.args.sink.now) (g.K.Sink.taken c.enter_all.new.sink) rs c.enter_all.result)
-    c.in-Some.ensures.requests c.enter_all.ensures.answers)
+    c.in-Ok.ensures.requests c.enter_all.ensures.answers)

@@ -36,10 +36,12 @@ returns-in_default-clause-session g c = memory_first g.W.Work.value _ _ _
 
 pub returns-in_default-clause-shown : goal.returns-in_default-clause-shown
 returns-in_default-clause-shown g c =
+    let laws = g.met.W.Work g.world.𝓛 g.world.𝓜 g.world.𝓡 ((λ s x. x), (λ x. x), (λ x. x), λ x. x) in
     let left = g.S.Source.left c.args.source.now in
     let out = g.K.Sink.taken c.args.sink.now in
-    session_shows g.W.Work.value (replies_shown g.W.Work.value g.met.W.Work.replies) left left out out c.args.tree.now c.args.tree.now _ (memory_first g.W.Work.value left out c.args.tree.now) c.length-length.ensures.legal
+    session_shows g.W.Work.value (replies_shown g.W.Work.value laws.replies) left left out out c.args.tree.now c.args.tree.now _ (memory_first g.W.Work.value left out c.args.tree.now) c.length-length.ensures.legal
 
 pub returns-in-Stop-clause-shown : goal.returns-in-Stop-clause-shown
 returns-in-Stop-clause-shown g c =
-    session_shows g.W.Work.value (replies_shown g.W.Work.value g.met.W.Work.replies) _ _ _ _ _ _ _ (c.in-Stop.ensures.step _ _ _ c.lines.invariant.runs) c.length-length-in-Stop.ensures.legal
+    let laws = g.met.W.Work g.world.𝓛 g.world.𝓜 g.world.𝓡 ((λ s x. x), (λ x. x), (λ x. x), λ x. x) in
+    session_shows g.W.Work.value (replies_shown g.W.Work.value laws.replies) _ _ _ _ _ _ _ (c.in-Stop.ensures.step _ _ _ c.lines.invariant.runs) c.length-length-in-Stop.ensures.legal
