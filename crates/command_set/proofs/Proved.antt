@@ -1,5 +1,5 @@
 -- In every history over a sound book the states are legal and prove the theorems of their `goal.start`, and printed proofs are proofs.
-use Rattle.std.proofs.Common.{◌≡◌, ℕ, List, [], ◌∷◌, ◌++◌, All, Bool, true, false, if◌then◌else◌, Option, None, Some, Result, Ok, Err, slice_get, option_map, refl, sym, ap, ◌∙◌, subst}
+use Rattle.std.proofs.Common.{◌≡◌, ℕ, List, [], ◌∷◌, Bool, true, false, if◌then◌else◌, Option, None, Some, Result, Ok, Err, slice_get, option_map, refl, sym, ap, ◌∙◌, subst}
 use Rattle.std.specs.Prelude.{unwrap_or}
 use Rattle.std.proofs.lemmas.Option.{same_Some}
 use Rattle.ld_trees.specs.Term.{Sort, Term, none, ◌▹◌}
@@ -19,7 +19,7 @@ use Rattle.meta_context.specs.Plain.{rules_env}
 use Rattle.book_reader.specs.Book.{BookRefusal, book_value}
 use Rattle.book_reader.proofs.Whole.{legal_all, book_named}
 use Rattle.book_reader.specs.Reading as books
-use Rattle.goal_state.specs.State.{State, HasRoot, root_type, root_value}
+use Rattle.goal_state.specs.State.{State, IsLegalState, HasRoot, root_type, root_value}
 use Rattle.goal_state.specs.Starting.{Started, TooDeep, Inferred, first_state, started}
 use Rattle.goal_state.specs.Following.{Extend}
 use Rattle.goal_state.proofs.Starts.{starting_is_legal}
@@ -28,14 +28,16 @@ use Rattle.unification.specs.Steps as steps
 use Rattle.move_set.specs.Refusals as move
 use Rattle.move_set.specs.Moves.{moved}
 use Rattle.move_set.proofs.States.{moving_is_legal, moving_keeps}
+use Rattle.continue_resume.specs.Continuing.{Continued, TargetHasGoals, RootDiffers, Continues, continued}
+use Rattle.continue_resume.specs.Resuming.{Resumed, GoalUndeclared, GoalAssigned, Resumes, resumed}
+use Rattle.continue_resume.proofs.Legal.{continuing_is_legal, resuming_is_legal}
 use Rattle.state_print.specs.Pieces.{is_solved, proof_json}
 use Rattle.state_print.proofs.Shown.{solved_is_shown}
 use Rattle.reply_text.specs.Shown.{term_json}
 use Rattle.repl_json.specs.declared.reply.Line.TheVariants as line
 use Rattle.repl_json.specs.declared.request.Ask.{Ask}
-use Rattle.repl_json.specs.declared.request.Ask.TheVariants.{Echo, EnvAdd, EnvInspect, EnvCatalog, Start, Move, Print}
+use Rattle.repl_json.specs.declared.request.Ask.TheVariants.{Echo, EnvAdd, EnvInspect, EnvCatalog, Start, Move, Continue, Resume, Print}
 use Rattle.state_tree.specs.declared.slot.Slot.{Slot}
-use Rattle.state_tree.specs.declared.work.Found.{Found}
 use Rattle.state_tree.specs.declared.work.Entry.{Entry}
 use Rattle.state_tree.specs.declared.work.Gave.TheVariants.{Answer}
 use Rattle.state_tree.specs.Server.{PlainTree, Stepped, ◌or◌, or_else, seq_of, unless_live, state_at, found_in, bad_case, ahead_case, unknown_case, unknown_state, flag_case, early_case, memory_case, value_case, answer, reply, replay}
@@ -43,6 +45,7 @@ use Rattle.state_tree.specs.Value.{Says}
 use Rattle.state_tree.specs.Marks.{HasIt, IsIt, Makes, IsInherited}
 use Rattle.state_tree.proofs.Inherited.{replay_holds, has_state}
 use Rattle.command_set.specs.Goals.{Given, printed, begun, resolved, parsed, start, made, move_on}
+use Rattle.command_set.specs.Branches.{went_on, continue_with, made_active, resume_with}
 use Rattle.command_set.specs.Values.{on, added_value, value}
 use Rattle.command_set.specs.Theorems.{ReadsAs, theorem_text, theorem_texts, IsSound, Proves, ShowsProof, Prints, StatesProve, PrintedProofsAreProofs}
 use Rattle.command_set.proofs.ReadBack.{proof_reads}
@@ -110,6 +113,38 @@ move_proves text s goal by fuel auto proves = case (moved s goal by fuel auto) r
   case (steps.Refused r left) e = tt
   case steps.OutOfFuel e = tt
 
+-- ---- `goal.continue` and `goal.resume`
+
+-- a state with the items and the metavariables of another one proves what that one proves, where it is legal
+same_proves : (text : Text) (s s' : State) → Proves text s → IsLegalState s' → s'.items ≡ s.items → s'.metas ≡ s.metas → Proves text s'
+same_proves text s s' proves legal items metas =
+    let root : root_type s' ≡ root_type s = same_root s.items s'.items s.goals s'.goals s.metas s'.metas metas in
+    record {
+      legal = legal;
+      sound = subst IsSound (sym items) proves.sound;
+      theorem = subst (λ is. ReadsAs is text (root_type s')) (sym items) (subst (ReadsAs s.items text) (sym root) proves.theorem);
+    }
+  where
+    same_root : (Δ Δ' : List (Item Term)) (g g' : List ℕ) (ds cs : List (Decl Term)) → cs ≡ ds → root_type (record { items = Δ'; metas = cs; goals = g' }) ≡ root_type (record { items = Δ; metas = ds; goals = g })
+    same_root Δ Δ' g g' [] [] e = refl
+    same_root Δ Δ' g g' [] (c ∷ cs) e = absurd cc
+    same_root Δ Δ' g g' (d ∷ ds) [] e = absurd cc
+    same_root Δ Δ' g g' (d ∷ ds) (c ∷ cs) e = ap (λ (ds : List (Decl Term)). root_type (record { items = Δ; metas = ds; goals = g })) e
+
+continue_proves : (text : Text) (s t : State) → Proves text s → IsLegalState t → MakesSo text (continue_with s t)
+continue_proves text s t proves legal = case (continued s t) refl where
+  case : (o : Continued) → continued s t ≡ o → MakesSo text (went_on o)
+  case (TargetHasGoals count) e = tt
+  case RootDiffers e = tt
+  case (Continues s') e = let l = continuing_is_legal s t s' proves.legal legal e in same_proves text s s' proves l.0 l.1 l.2
+
+resume_proves : (text : Text) (s : State) (goals : List ℕ) → Proves text s → MakesSo text (resume_with s goals)
+resume_proves text s goals proves = case (resumed s goals) refl where
+  case : (o : Resumed) → resumed s goals ≡ o → MakesSo text (made_active o)
+  case (GoalUndeclared m) e = tt
+  case (GoalAssigned m) e = tt
+  case (Resumes s') e = let l = resuming_is_legal s s' goals proves.legal e in same_proves text s s' proves l.0 l.1 l.2
+
 -- ---- `env.add`
 
 added_sound : (text : Text) (items : List (Item Term)) (fuel : ℕ) (book : Text) → IsSound items → MakesSo text (added_value (book_value items fuel book))
@@ -128,16 +163,29 @@ moved_on : (m : Option Text) (s : State) (goal : ℕ) (by : Text) (fuel : ℕ) (
 moved_on None s goal by fuel auto h = absurd h
 moved_on (Some x) s goal by fuel auto h = move_proves x s goal by fuel auto h
 
+continued_on : (m n : Option Text) (s t : State) → IsIt IsSound Proves (Some s) m → IsIt IsSound Proves (Some t) n → MakesSo (unwrap_or m []) (continue_with s t)
+continued_on None n s t h k = absurd h
+continued_on (Some x) None s t h k = absurd k
+continued_on (Some x) (Some y) s t h k = continue_proves x s t h k.legal
+
+resumed_on : (m : Option Text) (s : State) (goals : List ℕ) → IsIt IsSound Proves (Some s) m → MakesSo (unwrap_or m []) (resume_with s goals)
+resumed_on None s goals h = absurd h
+resumed_on (Some x) s goals h = resume_proves x s goals h
+
 inherited : IsInherited IsSound Proves value theorem_text
 unfolding value
-inherited (Echo env expr fuel) found m p q = on_makes _ found.env _ (λ items e. tt)
-inherited (EnvAdd env text fuel) found m p q = on_makes _ found.env _ (λ items e. added_sound _ items fuel text (subst (HasIt IsSound Proves) e p))
-inherited (EnvInspect env name) found m p q = on_makes _ found.env _ (λ items e. tt)
-inherited (EnvCatalog env) found m p q = on_makes _ found.env _ (λ items e. tt)
-inherited (Start env expr fuel) found m p q = on_makes _ found.env _ (λ items e. start_proves items expr fuel (subst (HasIt IsSound Proves) e p))
-inherited (Move state goal by fuel auto) found m p q = on_makes _ found.one _ (λ s e. moved_on m s goal by fuel auto (subst (λ o. IsIt IsSound Proves o m) e q))
-inherited (Print state) found m p q = on_makes _ found.one _ (λ s e. tt)
-inherited ask found m p q = tt
+inherited (Echo env expr fuel) found m n p q r = on_makes _ found.env _ (λ items e. tt)
+inherited (EnvAdd env text fuel) found m n p q r = on_makes _ found.env _ (λ items e. added_sound _ items fuel text (subst (HasIt IsSound Proves) e p))
+inherited (EnvInspect env name) found m n p q r = on_makes _ found.env _ (λ items e. tt)
+inherited (EnvCatalog env) found m n p q r = on_makes _ found.env _ (λ items e. tt)
+inherited (Start env expr fuel) found m n p q r = on_makes _ found.env _ (λ items e. start_proves items expr fuel (subst (HasIt IsSound Proves) e p))
+inherited (Move state goal by fuel auto) found m n p q r = on_makes _ found.one _ (λ s e. moved_on m s goal by fuel auto (subst (λ o. IsIt IsSound Proves o m) e q))
+inherited (Continue target branch) found m n p q r =
+    on_makes _ found.one _
+    (λ s e. on_makes _ found.two _ (λ t f. continued_on m n s t (subst (λ o. IsIt IsSound Proves o m) e q) (subst (λ o. IsIt IsSound Proves o n) f r)))
+inherited (Resume state goals) found m n p q r = on_makes _ found.one _ (λ s e. resumed_on m s goals (subst (λ o. IsIt IsSound Proves o m) e q))
+inherited (Print state) found m n p q r = on_makes _ found.one _ (λ s e. tt)
+inherited ask found m n p q r = tt
 
 -- ---- the states of a history
 

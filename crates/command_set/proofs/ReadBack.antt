@@ -1,6 +1,6 @@
 -- A proof in an environment whose items have names of the texts prints as a text that reads as the proof.
-use Rattle.std.proofs.Common.{◌≡◌, ℕ, List, [], ◌∷◌, length, map, All, Bool, true, false, cond, if◌then◌else◌, ◌||◌, ◌≤◌, nat_eq, Option, None, Some, option_map, refl, sym, ap, ◌∙◌, subst, arith, inl, inr}
-use Rattle.std.specs.Prelude.{find, nat_lt}
+use Rattle.std.proofs.Common.{◌≡◌, ℕ, List, [], ◌∷◌, length, All, Bool, true, false, cond, if◌then◌else◌, ◌||◌, ◌≤◌, nat_eq, Option, None, Some, option_map, refl, sym, ap, ◌∙◌, subst, arith, inl, inr}
+use Rattle.std.specs.Prelude.{nat_lt}
 use Rattle.std.specs.Str.{bytes_eq}
 use Rattle.std.proofs.lemmas.Bool.{eq-eqb}
 use Rattle.std.proofs.lemmas.Bool.Decides.{nat_tests}
@@ -10,20 +10,19 @@ use Rattle.std.proofs.lemmas.Slice.Eq.{bytes_eq-Decides}
 use Rattle.ld_trees.specs.Term.{Term, Srt, star, square, Var, App, Lam, Pi, Con, Named, Numbered, Terms, none, ◌▹◌, count, depth, nodes}
 use Rattle.ld_trees.specs.Scoping.{Scoped}
 use Rattle.ld_rules.specs.Derivation.{Derives}
-use Rattle.ld_rules.specs.Environment.{Item as RulesItem, item_of}
+use Rattle.ld_rules.specs.Environment.{Item as RulesItem}
 use Rattle.ld_rules.specs.Scoping.{IsKnown, Known, AllKnown}
 use Rattle.ld_rules.proofs.KnownConstants.{judgements_are_scoped}
 use Rattle.ld_terms.specs.Items.{item_named}
 use Rattle.ld_terms.specs.Names.{IsTextName}
 use Rattle.ld_terms.specs.declared.globals.Item.{Item}
-use Rattle.term_syntax.specs.Lex.{Text}
 use Rattle.term_syntax.specs.Printing.{text}
 use Rattle.term_syntax.specs.ReadsBack.{IsReadable, AreReadable}
 use Rattle.term_syntax.proofs.RoundTrip.{printed_is_read}
-use Rattle.term_text.specs.Printed.{is_large, shown, printed_as}
+use Rattle.term_text.specs.Printed.{is_large, shown}
 use Rattle.term_text.specs.Scoped.{arities}
 use Rattle.term_text.specs.declared.print.Printed.TheVariants as printed
-use Rattle.conversion.specs.Globals.{item_tree, context_of}
+use Rattle.conversion.specs.Globals.{item_tree}
 use Rattle.conversion.proofs.Lookups.{constant_found}
 use Rattle.meta_context.specs.Plain.{rules_env}
 use Rattle.meta_trees.specs.Dependencies.{occurs, occurs_in}

@@ -76,9 +76,11 @@ module _ {T H : Type 0} (holds : T → H → Type 0) (means : T → H → Term) 
   move_showable o terms (fault.Elab e) s = elab_showable (λ r. move.Elab r) o s.2 terms s.0 e s.1 s.3.1
   move_showable o terms (fault.Syntax at) s = tt
   move_showable o terms (fault.NoGoal index count) s = tt
-  move_showable o terms fault.NotYet s = tt
   move_showable o terms (fault.NameTaken name) s = tt
   move_showable o terms fault.NotProduct s = tt
+  move_showable o terms fault.NoAssumption s = tt
+  move_showable o terms (fault.NotDefined name) s = tt
+  move_showable o terms (fault.NoOccurrence name) s = tt
   move_showable o terms (fault.Unsolved at) s = tt
   move_showable o terms fault.TooManyMetas s = tt
   move_showable o terms fault.Fuel s = tt

@@ -1,5 +1,5 @@
 -- `goal.start`, `goal.move` and `goal.print`: a state is made, by a theorem or by a move, and shown.
-use Rattle.std.specs.Prelude.{ℕ, List, [], Bool, Some, None, Ok, Err, codes}
+use Rattle.std.specs.Prelude.{ℕ, List, [], ◌∷◌, Bool, None, Ok, Err, codes}
 use Rattle.ld_trees.specs.Term.{Term}
 use Rattle.ld_terms.specs.declared.globals.Item.{Item}
 use Rattle.term_syntax.specs.Lex.{Text}
@@ -20,7 +20,7 @@ use Rattle.state_print.specs.Pieces.{state_text}
 use Rattle.state_print.specs.Bodies.{made_body, printed_body}
 use Rattle.repl_json.specs.declared.reply.Body.{Body}
 use Rattle.reply_text.specs.declared.members.Members.{Members}
-use Rattle.reply_text.specs.Members.{body_text}
+use Rattle.reply_text.specs.Members.{string, body_text}
 use Rattle.reply_text.specs.Refusals as reply
 use Rattle.state_tree.specs.Value.{Value, Says, MakesState}
 
@@ -44,13 +44,19 @@ elab_refusal (elaboration.NotFunction depth t found) = reply.kernel None (kernel
 elab_refusal (elaboration.NotType depth t) = reply.kernel None (kernel.NotType depth t)
 elab_refusal elaboration.TooManyMetas = reply.plain (codes "tooManyMetas") None
 
+-- a refusal that names a constant
+abbrev pub of_name : List ℕ → Text → Members
+of_name error name = record { before = reply.error error ∷ string (codes "name") name ∷ []; after = [] }
+
 -- why a move makes no state
 unfoldable pub move_refusal : move.Refusal → Members
 move_refusal (move.Syntax at) = reply.syntax at
 move_refusal (move.NoGoal index count) = reply.no_goal index count
-move_refusal move.NotYet = reply.plain (codes "notYet") None
 move_refusal (move.NameTaken name) = reply.name_taken None name
 move_refusal move.NotProduct = reply.plain (codes "notProduct") None
+move_refusal move.NoAssumption = reply.plain (codes "noAssumption") None
+move_refusal (move.NotDefined name) = of_name (codes "notDefined") name
+move_refusal (move.NoOccurrence name) = of_name (codes "noOccurrence") name
 move_refusal (move.Unsolved at) = reply.unsolved None at
 move_refusal (move.Elab r) = elab_refusal r
 move_refusal move.TooManyMetas = reply.plain (codes "tooManyMetas") None

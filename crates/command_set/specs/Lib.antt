@@ -4,6 +4,7 @@ pub mod Echo
 pub mod Books
 pub mod Inspect
 pub mod Goals
+pub mod Branches
 pub mod Values
 pub mod Replies
 pub mod Theorems

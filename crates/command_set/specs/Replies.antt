@@ -21,28 +21,28 @@ use Rattle.unification.specs.Refusals as unification
 use Rattle.elaboration.specs.Refusals as elaboration
 use Rattle.move_set.specs.Refusals as move
 use Rattle.move_set.specs.Moves.{moved}
-use Rattle.state_print.specs.Bodies.{made_body, printed_body}
-use Rattle.state_print.specs.Pieces.{state_text}
 use Rattle.state_print.proofs.Lines.{shown_states_are_replies}
+use Rattle.continue_resume.specs.Continuing.{Continued, TargetHasGoals, RootDiffers, Continues, continued}
+use Rattle.continue_resume.specs.Resuming.{Resumed, GoalUndeclared, GoalAssigned, Resumes, resumed}
 use Rattle.book_reader.specs.Items.{ItemRefusal, NameTaken, Scope, Kernel, Fuel}
 use Rattle.book_reader.specs.Book.{BookRefusal, Syntax, AtItem, book_value}
 use Rattle.meta_context.specs.Entered.{names_of}
 use Rattle.meta_context.specs.Plain.{rules_env}
-use Rattle.repl_json.specs.OneLine.{is_unbroken, IsReply}
+use Rattle.repl_json.specs.OneLine.{memory_front, differ, IsReply}
 use Rattle.repl_json.proofs.OneLineLemmas.{unbroken-quoted, bad_is_reply}
 use Rattle.repl_json.specs.declared.request.Ask.{Ask}
-use Rattle.repl_json.specs.declared.request.Ask.TheVariants.{Echo, EnvAdd, EnvInspect, EnvCatalog, Start, Move, Print}
-use Rattle.repl_json.specs.declared.request.Bad.TheVariants.{NotYet}
+use Rattle.repl_json.specs.declared.request.Ask.TheVariants.{Echo, EnvAdd, EnvInspect, EnvCatalog, Start, Move, Continue, Resume, Print}
+use Rattle.repl_json.specs.declared.request.Bad.TheVariants.{Json}
 use Rattle.reply_text.specs.Members.{body_text}
 use Rattle.reply_text.specs.Context.{shown_names}
-use Rattle.reply_text.proofs.ReplyLines.{ArePlain, AreUnbroken, reply_of, string_plain, term_unbroken, array_unbroken, context_unbroken, syntax_reply, fuel_reply, taken_reply, no_item_reply, plain_reply, goal_reply, out_of_scope_reply, no_goal_reply, unknown_name_reply, wrong_count_reply, unsolved_reply, no_expected_reply, scoping_reply, kernel_reply}
+use Rattle.reply_text.proofs.ReplyLines.{ArePlain, AreUnbroken, reply_of, number_plain, string_plain, term_unbroken, array_unbroken, context_unbroken, syntax_reply, fuel_reply, taken_reply, no_item_reply, plain_reply, goal_reply, out_of_scope_reply, no_goal_reply, unknown_name_reply, wrong_count_reply, unsolved_reply, no_expected_reply, scoping_reply, kernel_reply}
 use Rattle.state_tree.specs.declared.work.Found.{Found}
-use Rattle.state_tree.specs.Value.{Value}
 use Rattle.state_tree.specs.Replies.{SaysReply}
 use Rattle.command_set.specs.Echo.{typed, inferred, resolved, parsed, echo}
 use Rattle.command_set.specs.Books.{item_refusal, book_refusal, added}
 use Rattle.command_set.specs.Inspect.{kind_of, value_of, front, back, item_members, found_item, inspect, catalog}
-use Rattle.command_set.specs.Goals.{Given, unify_refusal, elab_refusal, move_refusal, printed, makes, inferred as first_inferred, begun, resolved as first_resolved, parsed as first_parsed, start, made, move_on}
+use Rattle.command_set.specs.Goals.{Given, unify_refusal, elab_refusal, of_name, move_refusal, printed, makes, inferred as first_inferred, begun, resolved as first_resolved, parsed as first_parsed, start, made}
+use Rattle.command_set.specs.Branches.{target_has_goals, went_on, made_active}
 use Rattle.command_set.specs.Values.{on, added_value, value}
 
 -- ---- `expr.echo`
@@ -162,13 +162,18 @@ elab_reply (elaboration.NotFunction depth t found) = kernel_reply None (runs.Not
 elab_reply (elaboration.NotType depth t) = kernel_reply None (runs.NotType depth t)
 elab_reply elaboration.TooManyMetas = plain_reply (codes "tooManyMetas") refl
 
+name_reply : (error name : List ℕ) → differ (body_text (of_name error name)).first memory_front ≡ true → IsReply (body_text (of_name error name))
+name_reply error name other = reply_of (of_name error name) (string_plain (codes "error") error refl, (string_plain (codes "name") name refl, tt)) tt other
+
 move_reply : (r : move.Refusal) → IsReply (body_text (move_refusal r))
 unfolding move_refusal escape_byte
 move_reply (move.Syntax at) = syntax_reply at
 move_reply (move.NoGoal index count) = no_goal_reply index count
-move_reply move.NotYet = plain_reply (codes "notYet") refl
 move_reply (move.NameTaken name) = taken_reply None name
 move_reply move.NotProduct = plain_reply (codes "notProduct") refl
+move_reply move.NoAssumption = plain_reply (codes "noAssumption") refl
+move_reply (move.NotDefined name) = name_reply (codes "notDefined") name refl
+move_reply (move.NoOccurrence name) = name_reply (codes "noOccurrence") name refl
 move_reply (move.Unsolved at) = unsolved_reply None at
 move_reply (move.Elab r) = elab_reply r
 move_reply move.TooManyMetas = plain_reply (codes "tooManyMetas") refl
@@ -178,6 +183,23 @@ made_reply (steps.Gave s left) = makes_reply s
 made_reply (steps.Refused r left) = move_reply r
 made_reply steps.OutOfFuel = fuel_reply None
 
+-- ---- `goal.continue` and `goal.resume`
+
+target_reply : (count : ℕ) → IsReply (body_text (target_has_goals count))
+target_reply count = reply_of (target_has_goals count) (number_plain (codes "count") count refl, (string_plain (codes "error") (codes "targetHasGoals") refl, tt)) tt refl
+
+went_on_reply : (o : Continued) → SaysReply (went_on o)
+unfolding escape_byte
+went_on_reply (TargetHasGoals count) = target_reply count
+went_on_reply RootDiffers = plain_reply (codes "rootDiffers") refl
+went_on_reply (Continues s) = makes_reply s
+
+active_reply : (o : Resumed) → SaysReply (made_active o)
+unfolding escape_byte
+active_reply (GoalUndeclared m) = goal_reply (codes "goalUndeclared") m refl
+active_reply (GoalAssigned m) = goal_reply (codes "goalAssigned") m refl
+active_reply (Resumes s) = makes_reply s
+
 -- ---- the value of each command
 
 added_is_reply : (r : Result (List (Item Term)) BookRefusal) → SaysReply {E = List (Item Term)} {S = State} (added_value r)
@@ -185,7 +207,7 @@ added_is_reply (Ok items) = added_reply
 added_is_reply (Err r) = book_reply r
 
 on_reply : {A : Type 0} (o : Option A) (f : A → Given) → ((x : A) → SaysReply (f x)) → SaysReply (on o f)
-on_reply None f h = bad_is_reply NotYet
+on_reply None f h = bad_is_reply Json
 on_reply (Some x) f h = h x
 
 pub value_reply : (ask : Ask) (found : Found (List (Item Term)) State) → SaysReply (value ask found)
@@ -196,5 +218,7 @@ value_reply (EnvInspect env name) found = on_reply found.env _ (λ items. inspec
 value_reply (EnvCatalog env) found = on_reply found.env _ (λ items. catalog_reply items)
 value_reply (Start env expr fuel) found = on_reply found.env _ (λ items. start_reply items expr fuel)
 value_reply (Move state goal text fuel auto) found = on_reply found.one _ (λ s. made_reply (moved s goal text fuel auto))
+value_reply (Continue target branch) found = on_reply found.one _ (λ s. on_reply found.two _ (λ t. went_on_reply (continued s t)))
+value_reply (Resume state goals) found = on_reply found.one _ (λ s. active_reply (resumed s goals))
 value_reply (Print state) found = on_reply found.one _ (λ s. printed_reply s)
-value_reply ask found = bad_is_reply NotYet
+value_reply ask found = bad_is_reply Json

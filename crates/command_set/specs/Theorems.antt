@@ -35,7 +35,7 @@ ReadsAs items text t = (s : Surface) × IsText text s × (scope (arities items) 
 
 -- ---- where a state comes from
 
--- the text of the `goal.start` from which a state comes, where the state that the request names comes from that one
+-- the text of the `goal.start` from which a state comes, where the state that the request names first comes from that one
 abbrev pub theorem_text : Ask → Option Text → Text
 theorem_text (Start env expr fuel) named = expr
 theorem_text ask named = unwrap_or named []

@@ -16,22 +16,22 @@ ghost use Rattle.command_set.specs.Goals.{start, resolved, move_on, elab_refusal
 
 /// A proof of `(A : *) -> A -> A` by `intro A`, `intro x` and `exact x`, and refusals on the way.
 fn session_computes()
-    ensures start { resolved [] 100000 (Ok identity_type) ≡ MakesState started (body (codes "{\"goals\":[{\"goal\":0,\"target\":\"(%0 : *) -> %0 -> %0\",\"vars\":[]}],\"seq\":") (codes ",\"solved\":false,\"stateId\":") (codes "}")) }
+    ensures start { resolved [] 100000 (Ok identity_type) ≡ MakesState started (body (codes "{\"dormant\":[],\"goals\":[{\"coupled\":[],\"goal\":0,\"target\":\"(%0 : *) -> %0 -> %0\",\"vars\":[]}],\"seq\":") (codes ",\"solved\":false,\"stateId\":") (codes "}")) }
     // The sort of the theorem takes five units.
     ensures start_fuel { resolved [] 4 (Ok identity_type) ≡ Says (reply (codes "{\"error\":\"fuel\",\"seq\":") (codes "}")) }
     ensures start_unknown { resolved [] 100000 (Err (UnknownName 0 (codes "y"))) ≡ Says (reply (codes "{\"at\":0,\"error\":\"unknownName\",\"name\":\"y\",\"seq\":") (codes "}")) }
     ensures start_syntax { start [] (codes "(A -> ") 100000 ≡ Says (reply (codes "{\"at\":6,\"error\":\"syntax\",\"seq\":") (codes "}")) }
-    ensures intro { move_on started 0 (codes "intro A") 100000 true ≡ MakesState one_entry (body (codes "{\"goals\":[{\"goal\":1,\"target\":\"A -> A\",\"vars\":[{\"name\":\"A\",\"type\":\"*\"}]}],\"seq\":") (codes ",\"solved\":false,\"stateId\":") (codes "}")) }
+    ensures intro { move_on started 0 (codes "intro A") 100000 true ≡ MakesState one_entry (body (codes "{\"dormant\":[],\"goals\":[{\"coupled\":[],\"goal\":1,\"target\":\"A -> A\",\"vars\":[{\"name\":\"A\",\"type\":\"*\"}]}],\"seq\":") (codes ",\"solved\":false,\"stateId\":") (codes "}")) }
     ensures taken { move_on one_entry 0 (codes "intro A") 100000 true ≡ Says (reply (codes "{\"error\":\"nameTaken\",\"name\":\"A\",\"seq\":") (codes "}")) }
-    ensures again { move_on one_entry 0 (codes "intro x") 100000 true ≡ MakesState two_entries (body (codes "{\"goals\":[{\"goal\":2,\"target\":\"A\",\"vars\":[{\"name\":\"A\",\"type\":\"*\"},{\"name\":\"x\",\"type\":\"A\"}]}],\"seq\":") (codes ",\"solved\":false,\"stateId\":") (codes "}")) }
-    ensures print { printed proved ≡ body (codes "{\"goals\":[],\"seq\":") (codes ",\"solved\":true,\"term\":\"fun (%0 : *) => fun (%1 : %0) => %1\",\"type\":\"(%0 : *) -> %0 -> %0\"}") (codes "") }
+    ensures again { move_on one_entry 0 (codes "intro x") 100000 true ≡ MakesState two_entries (body (codes "{\"dormant\":[],\"goals\":[{\"coupled\":[],\"goal\":2,\"target\":\"A\",\"vars\":[{\"name\":\"A\",\"type\":\"*\"},{\"name\":\"x\",\"type\":\"A\"}]}],\"seq\":") (codes ",\"solved\":false,\"stateId\":") (codes "}")) }
+    ensures print { printed proved ≡ body (codes "{\"dormant\":[],\"goals\":[],\"seq\":") (codes ",\"solved\":true,\"term\":\"fun (%0 : *) => fun (%1 : %0) => %1\",\"type\":\"(%0 : *) -> %0 -> %0\"}") (codes "") }
 {}
 
 /// Moves whose texts are elaborated, in A : *, x : A with the goal A.
 fn moves_compute()
-    ensures exact { move_on two_entries 0 (codes "exact x") 100000 true ≡ MakesState proved (body (codes "{\"goals\":[],\"seq\":") (codes ",\"solved\":true,\"stateId\":") (codes "}")) }
-    ensures refine { move_on two_entries 0 (codes "refine ?") 100000 true ≡ MakesState refined (body (codes "{\"goals\":[{\"goal\":3,\"target\":\"A\",\"vars\":[{\"name\":\"A\",\"type\":\"*\"},{\"name\":\"x\",\"type\":\"A\"}]}],\"seq\":") (codes ",\"solved\":false,\"stateId\":") (codes "}")) }
-    ensures apply { move_on two_entries 0 (codes "apply fun (y : A) => y") 100000 true ≡ MakesState applied (body (codes "{\"goals\":[{\"goal\":3,\"target\":\"A\",\"vars\":[{\"name\":\"A\",\"type\":\"*\"},{\"name\":\"x\",\"type\":\"A\"}]}],\"seq\":") (codes ",\"solved\":false,\"stateId\":") (codes "}")) }
+    ensures exact { move_on two_entries 0 (codes "exact x") 100000 true ≡ MakesState proved (body (codes "{\"dormant\":[],\"goals\":[],\"seq\":") (codes ",\"solved\":true,\"stateId\":") (codes "}")) }
+    ensures refine { move_on two_entries 0 (codes "refine ?") 100000 true ≡ MakesState refined (body (codes "{\"dormant\":[],\"goals\":[{\"coupled\":[],\"goal\":3,\"target\":\"A\",\"vars\":[{\"name\":\"A\",\"type\":\"*\"},{\"name\":\"x\",\"type\":\"A\"}]}],\"seq\":") (codes ",\"solved\":false,\"stateId\":") (codes "}")) }
+    ensures apply { move_on two_entries 0 (codes "apply fun (y : A) => y") 100000 true ≡ MakesState applied (body (codes "{\"dormant\":[],\"goals\":[{\"coupled\":[],\"goal\":3,\"target\":\"A\",\"vars\":[{\"name\":\"A\",\"type\":\"*\"},{\"name\":\"x\",\"type\":\"A\"}]}],\"seq\":") (codes ",\"solved\":false,\"stateId\":") (codes "}")) }
     ensures mismatch { move_on one_entry 0 (codes "exact A") 100000 true ≡ Says (reply (codes "{\"error\":\"mismatch\",\"found\":\"*\",\"seq\":") (codes ",\"wanted\":\"%0 -> %0\"}")) }
     // A `?` where none may stand, and a `_` that is open in the end
     ensures asked { move_on two_entries 0 (codes "exact ?") 100000 true ≡ Says (reply (codes "{\"at\":6,\"error\":\"unsolved\",\"seq\":") (codes "}")) }
@@ -43,8 +43,10 @@ fn moves_compute()
 fn move_refusals_compute()
     ensures syntax { body_text (move_refusal (move.Syntax 5)) ≡ reply (codes "{\"at\":5,\"error\":\"syntax\",\"seq\":") (codes "}") }
     ensures no_goal { body_text (move_refusal (move.NoGoal 3 1)) ≡ reply (codes "{\"count\":1,\"error\":\"noGoal\",\"index\":3,\"seq\":") (codes "}") }
-    ensures not_yet { body_text (move_refusal move.NotYet) ≡ reply (codes "{\"error\":\"notYet\",\"seq\":") (codes "}") }
     ensures not_product { body_text (move_refusal move.NotProduct) ≡ reply (codes "{\"error\":\"notProduct\",\"seq\":") (codes "}") }
+    ensures no_assumption { body_text (move_refusal move.NoAssumption) ≡ reply (codes "{\"error\":\"noAssumption\",\"seq\":") (codes "}") }
+    ensures not_defined { body_text (move_refusal (move.NotDefined (codes "A"))) ≡ reply (codes "{\"error\":\"notDefined\",\"name\":\"A\",\"seq\":") (codes "}") }
+    ensures no_occurrence { body_text (move_refusal (move.NoOccurrence (codes "falsum"))) ≡ reply (codes "{\"error\":\"noOccurrence\",\"name\":\"falsum\",\"seq\":") (codes "}") }
     ensures unsolved { body_text (move_refusal (move.Unsolved 10)) ≡ reply (codes "{\"at\":10,\"error\":\"unsolved\",\"seq\":") (codes "}") }
     ensures too_many { body_text (move_refusal move.TooManyMetas) ≡ reply (codes "{\"error\":\"tooManyMetas\",\"seq\":") (codes "}") }
 {}

@@ -22,9 +22,9 @@ use move_set::{MoveFault, Refused, run_move};
 use pattern_unify::UnifyFault;
 use repl_json::Body;
 use reply_text::{
-    Members, fault_members, fuel_members, goal_members, no_expected_members, no_goal_members,
-    out_of_scope_members, plain_members, syntax_members, taken_members, unknown_name_members,
-    unsolved_members, wrong_count_members,
+    Member, Members, fault_members, fuel_members, goal_members, no_expected_members,
+    no_goal_members, out_of_scope_members, plain_members, syntax_members, taken_members,
+    unknown_name_members, unsolved_members, wrong_count_members,
 };
 use state_print::{print_state, printed_body};
 use state_tree::Worked;
@@ -118,6 +118,17 @@ fn elab_members<T: Terms>(
     }
 }
 
+/// A refusal that names a constant.
+fn name_members(alloc: Global, error: &str, name: &[u8]) -> Result<Members, AllocError>
+    ensures { IfOk result (λ m. m ≡ spec.of_name error.now name.now) }
+{
+    let before = vec![in alloc;
+        Member::string(alloc, "error", error.as_bytes())?,
+        Member::string(alloc, "name", name)?,
+    ]?;
+    Ok(Members::before(alloc, before))
+}
+
 /// Why a move makes no state, but for the reply's `seq`. Fails for want of memory alone.
 fn move_members<T: Terms>(
     alloc: Global,
@@ -130,9 +141,11 @@ fn move_members<T: Terms>(
     match fault {
         MoveFault::Syntax { at } => syntax_members(alloc, *at),
         MoveFault::NoGoal { index, count } => no_goal_members(alloc, *index, *count),
-        MoveFault::NotYet => plain_members(alloc, "notYet", None),
         MoveFault::NameTaken { name } => taken_members(alloc, None, name.as_bytes()),
         MoveFault::NotProduct => plain_members(alloc, "notProduct", None),
+        MoveFault::NoAssumption => plain_members(alloc, "noAssumption", None),
+        MoveFault::NotDefined { name } => name_members(alloc, "notDefined", name.as_bytes()),
+        MoveFault::NoOccurrence { name } => name_members(alloc, "noOccurrence", name.as_bytes()),
         MoveFault::Unsolved { at } => unsolved_members(alloc, None, *at),
         MoveFault::Elab(fault) => elab_members(alloc, terms, fault),
         MoveFault::TooManyMetas => plain_members(alloc, "tooManyMetas", None),

@@ -148,15 +148,6 @@ fn environments(rt: HostRuntime) -> Result<(), Fail> {
         found.as_slice()
             == b"{\"kind\":\"prim\",\"params\":[{\"name\":\"F\",\"type\":\"N() -> *\"},{\"name\":\"x\",\"type\":\"N()\"}],\"seq\":0,\"type\":\"F x\"}".as_slice()
     );
-    let found = said(
-        alloc,
-        &applied,
-        Ask::Continue {
-            target: 0,
-            branch: 0,
-        },
-    )?;
-    assert!(rt; found.as_slice() == b"{\"error\":\"notYet\",\"seq\":0}".as_slice());
     Ok(())
 }
 
@@ -210,20 +201,20 @@ fn a_proof(rt: HostRuntime) -> Result<(), Fail> {
     };
     let (mut state, found) = step(alloc, Some(&empty), None, start)?;
     let wanted: &[u8] =
-        b"{\"goals\":[{\"goal\":0,\"target\":\"(%0 : *) -> %0 -> %0\",\"vars\":[]}],\"seq\":0,\"solved\":false,\"stateId\":0}";
+        b"{\"dormant\":[],\"goals\":[{\"coupled\":[],\"goal\":0,\"target\":\"(%0 : *) -> %0 -> %0\",\"vars\":[]}],\"seq\":0,\"solved\":false,\"stateId\":0}";
     assert!(rt; found.as_slice() == wanted);
     let rows: [(&[u8], &[u8]); 3] = [
         (
             b"intro A",
-            b"{\"goals\":[{\"goal\":1,\"target\":\"A -> A\",\"vars\":[{\"name\":\"A\",\"type\":\"*\"}]}],\"seq\":0,\"solved\":false,\"stateId\":0}",
+            b"{\"dormant\":[],\"goals\":[{\"coupled\":[],\"goal\":1,\"target\":\"A -> A\",\"vars\":[{\"name\":\"A\",\"type\":\"*\"}]}],\"seq\":0,\"solved\":false,\"stateId\":0}",
         ),
         (
             b"intro x",
-            b"{\"goals\":[{\"goal\":2,\"target\":\"A\",\"vars\":[{\"name\":\"A\",\"type\":\"*\"},{\"name\":\"x\",\"type\":\"A\"}]}],\"seq\":0,\"solved\":false,\"stateId\":0}",
+            b"{\"dormant\":[],\"goals\":[{\"coupled\":[],\"goal\":2,\"target\":\"A\",\"vars\":[{\"name\":\"A\",\"type\":\"*\"},{\"name\":\"x\",\"type\":\"A\"}]}],\"seq\":0,\"solved\":false,\"stateId\":0}",
         ),
         (
             b"exact x",
-            b"{\"goals\":[],\"seq\":0,\"solved\":true,\"stateId\":0}",
+            b"{\"dormant\":[],\"goals\":[],\"seq\":0,\"solved\":true,\"stateId\":0}",
         ),
     ];
     for (text, wanted) in rows {
@@ -233,7 +224,7 @@ fn a_proof(rt: HostRuntime) -> Result<(), Fail> {
     }
     let (_, found) = step(alloc, None, state, Ask::Print { state: 0 })?;
     let wanted: &[u8] =
-        b"{\"goals\":[],\"seq\":0,\"solved\":true,\"term\":\"fun (%0 : *) => fun (%1 : %0) => %1\",\"type\":\"(%0 : *) -> %0 -> %0\"}";
+        b"{\"dormant\":[],\"goals\":[],\"seq\":0,\"solved\":true,\"term\":\"fun (%0 : *) => fun (%1 : %0) => %1\",\"type\":\"(%0 : *) -> %0 -> %0\"}";
     assert!(rt; found.as_slice() == wanted);
     Ok(())
 }

@@ -1,17 +1,18 @@
 //! The work of the server: the value of each command.
 
 ghost use Rattle.std.specs.Prelude.{◌≡◌, IfOk};
-ghost use Rattle.repl_json.specs.Bad.{bad_body as body_of};
-ghost use Rattle.repl_json.specs.declared.request.Bad.TheVariants.{NotYet};
-ghost use Rattle.state_tree.specs.Value.{Gives, Says, value_at};
-ghost use Rattle.command_set.specs.Values.{value};
+ghost use Rattle.state_tree.specs.Value.{Gives, value_at};
+ghost use Rattle.command_set.specs.Branches.{continue_with};
+ghost use Rattle.command_set.specs.Values.{on, value, no_value};
 ghost use Rattle.command_set.specs.Replies.{value_reply};
 
 use crate::env_add::add_items;
 use crate::env_inspect::{catalog, inspect};
 use crate::environment::Environment;
 use crate::expr_echo::echo;
+use crate::goal_continue::continue_state;
 use crate::goal_move::{move_goal, print};
+use crate::goal_resume::resume_goals;
 use crate::goal_start::start;
 use crate::plain::{PlainEnvironment, PlainState};
 use crate::proof_state::ProofState;
@@ -39,11 +40,25 @@ fn kept(worked: Worked<Environment<TreeTerms>, ProofState<TreeTerms>>) -> Given
     }
 }
 
-/// The reply of a command that isn't built.
-fn not_yet(alloc: Global) -> Result<Given, AllocError>
-    ensures { IfOk result (λ w. Gives (Says (body_of NotYet)) w) }
+/// What stands where a request has no value. No entry ever reads it.
+fn no_value(alloc: Global) -> Result<Given, AllocError>
+    ensures { IfOk result (λ w. Gives no_value w) }
 {
-    Ok(Worked::Said(bad_body(alloc, &Bad::NotYet)?))
+    Ok(Worked::Said(bad_body(alloc, &Bad::Json)?))
+}
+
+/// A target goes on with a branch, where that was found.
+fn go_on(
+    alloc: Global,
+    target: &PlainState,
+    branch: &Option<PlainState>,
+) -> Result<Given, AllocError>
+    ensures { IfOk result (λ w. Gives (on branch.now (λ t. continue_with target.now t)) w) }
+{
+    match branch {
+        Some(branch) => Ok(kept(continue_state(alloc, &target.state, &branch.state)?)),
+        None => no_value(alloc),
+    }
 }
 
 /// The value of a command. Fails for want of memory alone.
@@ -81,8 +96,12 @@ fn try_work(
             _,
             Some(state),
         ) => Ok(kept(move_goal(alloc, &state.state, *goal, text.as_slice(), *fuel, *auto)?)),
+        (Ask::Continue { .. }, _, Some(target)) => go_on(alloc, target, &found.two),
+        (Ask::Resume { goals, .. }, _, Some(state)) => {
+            Ok(kept(resume_goals(alloc, &state.state, goals.as_slice())?))
+        }
         (Ask::Print { .. }, _, Some(state)) => Ok(Worked::Said(print(alloc, &state.state)?)),
-        _ => not_yet(alloc),
+        _ => no_value(alloc),
     }
 }
 

@@ -8,6 +8,8 @@ use panto_cli::{Status, panto_run, write_note};
 use std::env;
 use std::io::ErrorKind;
 use std::process::ExitCode;
+use std::thread::Threads;
+use worker_gate::OpenGate;
 
 /// The words after the program's name. A word that isn't UTF-8 is none of any form.
 fn words_of(rt: &HostRuntime) -> Result<Vec<String>, Status> {
@@ -26,8 +28,12 @@ fn words_of(rt: &HostRuntime) -> Result<Vec<String>, Status> {
     Ok(words)
 }
 
-/// Runs on the standard streams. An error is a status whose note isn't written yet.
-fn run(rt: &HostRuntime, notes: &mut StdErr) -> Result<Status, Status> {
+/// Runs on the standard streams, with these threads for the workers. An error is a status whose note isn't written yet.
+fn run<R: Threads + Sync>(
+    rt: &HostRuntime,
+    threads: &R,
+    notes: &mut StdErr,
+) -> Result<Status, Status> {
     let words = words_of(rt)?;
     let mut shelf = Folder::new(rt);
     let mut input = StdIn::new(rt.stdin());
@@ -35,18 +41,20 @@ fn run(rt: &HostRuntime, notes: &mut StdErr) -> Result<Status, Status> {
         return Err(Status::Memory);
     };
     Ok(panto_run(
+        threads,
         rt.alloc(),
         &words,
         &mut shelf,
         &mut input,
         &mut output,
         notes,
+        &OpenGate,
     ))
 }
 
 fn main(rt: HostRuntime) -> ExitCode {
     let mut notes = StdErr::new(rt.stderr());
-    let status = match run(&rt, &mut notes) {
+    let status = match run(&rt, &rt, &mut notes) {
         Ok(status) => status,
         Err(status) => {
             write_note(&mut notes, status);

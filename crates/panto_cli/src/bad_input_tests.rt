@@ -4,6 +4,8 @@ use crate::{Status, panto_run};
 use pan_io::{MemoryShelf, MemorySink, MemorySource};
 use std::alloc::{AllocError, Global};
 use std::test::Fail;
+use std::thread::Threads;
+use worker_gate::OpenGate;
 
 /// `stat` with an unknown field of so many lists inside one another.
 fn push_nested(input: &mut Vec<u8>, alloc: Global, lists: usize) -> Result<(), AllocError> {
@@ -14,19 +16,25 @@ fn push_nested(input: &mut Vec<u8>, alloc: Global, lists: usize) -> Result<(), A
 }
 
 /// The output of `run` over an input that gives seven bytes a call.
-fn answered(alloc: Global, input: Vec<u8>) -> Result<(Status, Vec<u8>), AllocError> {
+fn answered<R: Threads + Sync>(
+    rt: &R,
+    alloc: Global,
+    input: Vec<u8>,
+) -> Result<(Status, Vec<u8>), AllocError> {
     let words = vec![in alloc; String::from_str(alloc, "run")?]?;
     let mut shelf = MemoryShelf::new(Vec::new(alloc), Vec::new(alloc));
     let mut input = MemorySource::new(input, vec![in alloc; 7]?, Vec::new(alloc));
     let mut output = MemorySink::new(alloc, 0, 10_000, Vec::new(alloc));
     let mut notes = MemorySink::new(alloc, 0, 100, Vec::new(alloc));
     let status = panto_run(
+        rt,
         alloc,
         &words,
         &mut shelf,
         &mut input,
         &mut output,
         &mut notes,
+        &OpenGate,
     );
     Ok((status, Vec::from_slice(alloc, output.bytes())?))
 }
@@ -54,7 +62,7 @@ fn refused_lines_change_nothing(rt: HostRuntime) -> Result<(), Fail> {
         {\"error\":\"json\",\"seq\":6}\n\
         {\"names\":[],\"seq\":7}\n\
         {\"envs\":1,\"live\":0,\"seq\":8,\"states\":0}\n";
-    let (status, output) = answered(alloc, input)?;
+    let (status, output) = answered(&rt, alloc, input)?;
     assert_eq!(rt; output.as_slice(), wanted.as_bytes());
     assert_eq!(rt; status.code(), 0);
     Ok(())

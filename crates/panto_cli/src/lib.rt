@@ -4,6 +4,7 @@
 
 mod book;
 mod check;
+mod host;
 mod notes;
 mod pieces;
 mod run;
@@ -20,6 +21,8 @@ mod book_tests;
 #[cfg(test)]
 mod goal_tests;
 #[cfg(test)]
-mod move_tests;
+mod session_tests;
 #[cfg(test)]
 mod tests;
+#[cfg(test)]
+mod tries_tests;

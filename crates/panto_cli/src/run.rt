@@ -1,11 +1,12 @@
 //! The top call: the words, the book, the session, the note.
 
-ghost use Rattle.std.specs.Prelude.{◌≡◌, ◌≤◌, ◌⊎◌, ℕ, List, Option, Some, map, option_map, string_bytes, is_some};
+ghost use Rattle.std.specs.Prelude.{◌≡◌, ◌<◌, ◌≤◌, ◌⊎◌, ℕ, List, Option, Some, map, option_map, string_bytes, is_some};
 ghost use Rattle.std.specs.Io.KnownBytes.{Keeps};
 ghost use Rattle.pan_io.specs.Books.{NamedBytes};
 ghost use Rattle.pan_io.specs.Faults.{Rose};
 ghost use Rattle.command_line.specs.Form.{Command, form_of, run};
 ghost use Rattle.command_line.specs.Given.{Text};
+ghost use Rattle.command_line.specs.Range.{IsInRange};
 ghost use Rattle.command_line.specs.Seen.{seen};
 ghost use Rattle.panto_cli.specs.Books.{IsOpenFault};
 ghost use Rattle.panto_cli.specs.Ends.{Ends};
@@ -15,6 +16,7 @@ ghost use Rattle.panto_cli.specs.Run.{Answered, Leaves, Completes, IsServed, IsR
 
 use crate::book::open_book;
 use crate::check::{check_book, outcome_without};
+use crate::host::Host;
 use crate::notes::{Outcome, write_outcome};
 use crate::status::{Status, status_of};
 use command_line::{Form, read_words};
@@ -23,6 +25,8 @@ use pan_io::{Shelf, Sink, Source};
 use session_server::{End, run_session};
 use state_tree::Tree;
 use std::alloc::Global;
+use std::thread::Threads;
+use worker_gate::Gate;
 
 /// How a run ended whose session ended so.
 fn ended(end: End) -> Outcome
@@ -35,13 +39,15 @@ fn ended(end: End) -> Outcome
 }
 
 /// Answers the requests of the input over a book.
-fn serve_book<S: Source, K: Sink>(
-    alloc: Global,
+fn serve_book<R: Threads + Sync, S: Source, K: Sink, G: Gate>(
+    host: &Host<'_, R, G>,
     book: PlainEnvironment,
     entries: u32,
+    workers: u32,
     input: &mut S,
     output: &mut K,
 ) -> Outcome
+    requires { (0 < workers) × (workers ≤ 64) }
     ensures answered { ((status_in result ≡ Status.Memory) × Keeps (K.taken output.old) (K.taken output.new))
         ⊎ Answered book entries (S.left input.old) (S.left input.new) (K.taken output.old) (K.taken output.new) (status_in result) }
     ensures note { (books : Option (List NamedBytes)) (file : Option Text) → IsNote books file entries (status_in result) (line_of result) }
@@ -52,25 +58,29 @@ fn serve_book<S: Source, K: Sink>(
     ensures later_in { S.faults input.old ≤ S.faults input.new }
     ensures later_out { K.faults output.old ≤ K.faults output.new }
 {
-    let Ok(mut tree) = Tree::open(alloc, book, entries) else {
+    let Ok(mut tree) = Tree::open(host.alloc, book, entries) else {
         return Outcome::Plain(Status::Memory);
     };
-    let end = run_session(alloc, &Program, &mut tree, input, output);
+    let end = run_session(
+        host.rt, host.alloc, &Program, &mut tree, workers, input, output, host.gate,
+    );
     // The length tells that the entries are a legal history.
     let _length = tree.length();
     ended(end)
 }
 
 /// Opens the book and answers the requests of the input.
-fn serve_input<H: Shelf, S: Source, K: Sink>(
-    alloc: Global,
+fn serve_input<R: Threads + Sync, H: Shelf, S: Source, K: Sink, G: Gate>(
+    host: &Host<'_, R, G>,
     shelf: &mut H,
     file: Option<&str>,
     entries: u32,
+    workers: u32,
     input: &mut S,
     output: &mut K,
 ) -> Outcome
-    ensures ends { (workers : ℕ) → Ends (H.books shelf.old) (Some (run (option_map (λ s. s.now) file.entry) entries workers))
+    requires { (0 < workers) × (workers ≤ 64) }
+    ensures ends { Ends (H.books shelf.old) (Some (run (option_map (λ s. s.now) file.entry) entries workers))
         (S.left input.old) (S.left input.new) (K.taken output.old) (K.taken output.new)
         (record { before = H.faults shelf.old; after = H.faults shelf.new }) (record { before = S.faults input.old; after = S.faults input.new })
         (record { before = K.faults output.old; after = K.faults output.new }) result }
@@ -81,20 +91,21 @@ fn serve_input<H: Shelf, S: Source, K: Sink>(
     ensures later_in { S.faults input.old ≤ S.faults input.new }
     ensures later_out { K.faults output.old ≤ K.faults output.new }
 {
-    match open_book(alloc, shelf, file) {
-        Ok(book) => serve_book(alloc, book, entries, input, output),
+    match open_book(host.alloc, shelf, file) {
+        Ok(book) => serve_book(host, book, entries, workers, input, output),
         Err(fault) => outcome_without(fault),
     }
 }
 
 /// What the words of a form ask for.
-fn run_form<H: Shelf, S: Source, K: Sink>(
-    alloc: Global,
+fn run_form<R: Threads + Sync, H: Shelf, S: Source, K: Sink, G: Gate>(
+    host: &Host<'_, R, G>,
     form: Form,
     shelf: &mut H,
     input: &mut S,
     output: &mut K,
 ) -> Outcome
+    requires { IsInRange (seen form) }
     ensures ends { Ends (H.books shelf.old) (Some (seen form.entry)) (S.left input.old) (S.left input.new) (K.taken output.old) (K.taken output.new)
         (record { before = H.faults shelf.old; after = H.faults shelf.new }) (record { before = S.faults input.old; after = S.faults input.new })
         (record { before = K.faults output.old; after = K.faults output.new }) result }
@@ -108,16 +119,20 @@ fn run_form<H: Shelf, S: Source, K: Sink>(
     ensures later_out { K.faults output.old ≤ K.faults output.new }
 {
     match form {
-        Form::Run { book, entries, .. } => serve_input(alloc, shelf, book, entries, input, output),
-        Form::Check { file } => check_book(alloc, shelf, file, output),
+        Form::Run {
+            book,
+            entries,
+            workers,
+        } => serve_input(host, shelf, book, entries, workers, input, output),
+        Form::Check { file } => check_book(host.alloc, shelf, file, output),
         Form::Serve { .. } => Outcome::Plain(Status::Usage),
         Form::Demo { .. } => Outcome::Plain(Status::Usage),
     }
 }
 
 /// What the words ask for.
-fn run_words<H: Shelf, S: Source, K: Sink>(
-    alloc: Global,
+fn run_words<R: Threads + Sync, H: Shelf, S: Source, K: Sink, G: Gate>(
+    host: &Host<'_, R, G>,
     words: &[String],
     shelf: &mut H,
     input: &mut S,
@@ -135,8 +150,8 @@ fn run_words<H: Shelf, S: Source, K: Sink>(
     ensures later_in { S.faults input.old ≤ S.faults input.new }
     ensures later_out { K.faults output.old ≤ K.faults output.new }
 {
-    match read_words(alloc, words) {
-        Ok(Some(form)) => run_form(alloc, form, shelf, input, output),
+    match read_words(host.alloc, words) {
+        Ok(Some(form)) => run_form(host, form, shelf, input, output),
         Ok(None) => Outcome::Plain(Status::Usage),
         Err(_) => Outcome::Plain(Status::Memory),
     }
@@ -144,18 +159,21 @@ fn run_words<H: Shelf, S: Source, K: Sink>(
 
 /// Runs panto on its words.
 ///
-/// `run [--book FILE] [--entries N]` answers the requests of the input, one line each, over the book
-/// that the shelf has under FILE; `check FILE` prints how many items a book has. Where the input and
+/// `run [--book FILE] [--entries N] [--workers N]` answers the requests of the input, one line each,
+/// over the book that the shelf has under FILE, with the moves of a line of tries made by N workers, of
+/// whose jobs the gate hears; `check FILE` prints how many items a book has. Where the input and
 /// the shelf tell their bytes, the output is, however they are cut into reads, what `specs/Run.antt`
 /// says by the status: the replies of the one-thread server to the requests of the lines, in order.
 /// It always returns.
-pub fn panto_run<H: Shelf, S: Source, K: Sink, N: Sink>(
+pub fn panto_run<R: Threads + Sync, H: Shelf, S: Source, K: Sink, N: Sink, G: Gate>(
+    rt: &R,
     alloc: Global,
     words: &[String],
     shelf: &mut H,
     input: &mut S,
     output: &mut K,
     notes: &mut N,
+    gate: &G,
 ) -> Status
     // What the words leave, by the status.
     ensures leaves { Leaves (H.books shelf.old) (form_of (map string_bytes words.now)) (S.left input.old) (S.left input.new) (K.taken output.old) (K.taken output.new) result }
@@ -185,7 +203,8 @@ pub fn panto_run<H: Shelf, S: Source, K: Sink, N: Sink>(
     ensures complete { Completes (H.books shelf.old) (form_of (map string_bytes words.now)) (S.left input.old)
         (Rose (H.faults shelf.old) (H.faults shelf.new) ⊎ Rose (S.faults input.old) (S.faults input.new) ⊎ Rose (K.faults output.old) (K.faults output.new)) result }
 {
-    let outcome = run_words(alloc, words, shelf, input, output);
+    let host = Host { rt, alloc, gate };
+    let outcome = run_words(&host, words, shelf, input, output);
     write_outcome(notes, &outcome);
     outcome.status()
 }

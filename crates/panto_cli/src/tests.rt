@@ -8,13 +8,16 @@ use pan_io::{Book, Failed, MemoryShelf, MemorySink, MemorySource, Sink, Source};
 use std::alloc::{AllocError, Global};
 use std::cell::Cell;
 use std::test::Fail;
+use std::thread::Threads;
+use worker_gate::OpenGate;
 
 const ECHO: &str = "expr.echo {\"expr\":\"fun (A : *) => fun (x : A) => x\"}";
 
 const ECHOED: &str =
     "{\"expr\":\"fun (%0 : *) => fun (%1 : %0) => %1\",\"seq\":0,\"type\":\"(%0 : *) -> %0 -> %0\"}\n";
 
-const USAGE: &str = "usage: panto run [--book FILE] [--entries N]\n       panto check FILE\n";
+const USAGE: &str =
+    "usage: panto run [--book FILE] [--entries N] [--workers N]\n       panto check FILE\n";
 
 const BOOK: &str =
     "prim N : *; prim a : N(); prim b : N(); prim c : N(); prim le (x : N()) (y : N()) : *; \
@@ -38,7 +41,8 @@ fn words_of(alloc: Global, line: &str) -> Result<Vec<String>, AllocError> {
 }
 
 /// A run over a source, with a shelf whose book `F` has this text, and an output that takes so many bytes.
-fn run_over(
+fn run_over<R: Threads + Sync>(
+    rt: &R,
     alloc: Global,
     line: &str,
     book: &str,
@@ -51,7 +55,16 @@ fn run_over(
     let mut shelf = MemoryShelf::new(vec![in alloc; book]?, Vec::new(alloc));
     let mut output = MemorySink::new(alloc, 3, room, Vec::new(alloc));
     let mut notes = MemorySink::new(alloc, 0, 1000, Vec::new(alloc));
-    let status = panto_run(alloc, &words, &mut shelf, source, &mut output, &mut notes);
+    let status = panto_run(
+        rt,
+        alloc,
+        &words,
+        &mut shelf,
+        source,
+        &mut output,
+        &mut notes,
+        &OpenGate,
+    );
     Ok(Ran {
         status,
         output: Vec::from_slice(alloc, output.bytes())?,
@@ -71,7 +84,8 @@ fn source(
 }
 
 /// Whether a run that reads one byte a call leaves this output, status code and note.
-fn shows(
+fn shows<R: Threads + Sync>(
+    rt: &R,
     alloc: Global,
     line: &str,
     book: &str,
@@ -79,7 +93,7 @@ fn shows(
     wanted: (&str, u8, &str),
 ) -> Result<bool, AllocError> {
     let mut source = source(alloc, input, 1, Vec::new(alloc))?;
-    let left = run_over(alloc, line, book, &mut source, 10_000)?;
+    let left = run_over(rt, alloc, line, book, &mut source, 10_000)?;
     Ok(
         left.output.as_slice() == wanted.0.as_bytes()
             && left.status.code() == wanted.1
@@ -107,7 +121,7 @@ fn worked_sessions(rt: HostRuntime) -> Result<(), Fail> {
         ),
     ];
     for (input, wanted) in rows {
-        assert!(rt; shows(rt.alloc(), "run", "", input, (wanted, 0, ""))?);
+        assert!(rt; shows(&rt, rt.alloc(), "run", "", input, (wanted, 0, ""))?);
     }
     Ok(())
 }
@@ -119,16 +133,16 @@ fn worked_books(rt: HostRuntime) -> Result<(), Fail> {
         b"env.add {\"text\":\"prim app (F : N() -> *) (x : N()) : F x;\"}\nenv.catalog {\"envId\":0}\nenv.inspect {\"envId\":1,\"name\":\"app\"}\nenv.catalog {\"envId\":2}\n";
     let replies =
         "{\"envId\":1,\"seq\":0}\n{\"names\":[\"N\",\"a\",\"b\",\"c\",\"le\",\"trans\",\"ac\",\"cb\"],\"seq\":1}\n{\"kind\":\"prim\",\"params\":[{\"name\":\"F\",\"type\":\"N() -> *\"},{\"name\":\"x\",\"type\":\"N()\"}],\"seq\":2,\"type\":\"F x\"}\n{\"error\":\"unknownEnv\",\"id\":2,\"seq\":3}\n";
-    assert!(rt; shows(alloc, "run --book F", BOOK, input, (replies, 0, ""))?);
+    assert!(rt; shows(&rt, alloc, "run --book F", BOOK, input, (replies, 0, ""))?);
     let two = "def falsum := (A : *) -> A : *; def not (A : *) := A -> falsum() : *;";
-    assert!(rt; shows(alloc, "check F", two, b"", ("checked 2\n", 0, ""))?);
+    assert!(rt; shows(&rt, alloc, "check F", two, b"", ("checked 2\n", 0, ""))?);
     let twice = "prim a : *; prim a : *;";
     let taken = "panto: book: {\"error\":\"nameTaken\",\"item\":1,\"name\":\"a\"}\n";
-    assert!(rt; shows(alloc, "check F", twice, b"", ("", 5, taken))?);
-    assert!(rt; shows(alloc, "run --book=F", twice, b"nope\n", ("", 5, taken))?);
+    assert!(rt; shows(&rt, alloc, "check F", twice, b"", ("", 5, taken))?);
+    assert!(rt; shows(&rt, alloc, "run --book=F", twice, b"nope\n", ("", 5, taken))?);
     let missing = ("", 7, "panto: cannot open\n");
-    assert!(rt; shows(alloc, "check G", "", b"", missing)?);
-    assert!(rt; shows(alloc, "run --book G", "", b"nope\n", missing)?);
+    assert!(rt; shows(&rt, alloc, "check G", "", b"", missing)?);
+    assert!(rt; shows(&rt, alloc, "run --book G", "", b"nope\n", missing)?);
     Ok(())
 }
 
@@ -137,7 +151,7 @@ fn worked_words(rt: HostRuntime) -> Result<(), Fail> {
     let alloc = rt.alloc();
     let first = "{\"error\":\"command\",\"seq\":0}\n";
     let full = (first, 6, "panto: full 1\n");
-    assert!(rt; shows(alloc, "run --entries 1", "", b"nope\nnope\n", full)?);
+    assert!(rt; shows(&rt, alloc, "run --entries 1", "", b"nope\nnope\n", full)?);
     let lines: [&str; 6] = [
         "run --entries 0",
         "run --workers 65",
@@ -147,7 +161,7 @@ fn worked_words(rt: HostRuntime) -> Result<(), Fail> {
         "",
     ];
     for line in lines {
-        assert!(rt; shows(alloc, line, "", b"nope\n", ("", 2, USAGE))?);
+        assert!(rt; shows(&rt, alloc, line, "", b"nope\n", ("", 2, USAGE))?);
     }
     Ok(())
 }
@@ -161,7 +175,7 @@ fn input_fails_at_each_call(rt: HostRuntime) -> Result<(), Fail> {
     let both = "{\"error\":\"command\",\"seq\":0}\n{\"error\":\"command\",\"seq\":1}\n";
     for (call, wanted) in [(0, ""), (1, first), (2, both)] {
         let mut source = source(alloc, input, 10, vec![in alloc; call]?)?;
-        let left = run_over(alloc, "run", "", &mut source, 1000)?;
+        let left = run_over(&rt, alloc, "run", "", &mut source, 1000)?;
         assert_eq!(rt; left.output.as_slice(), wanted.as_bytes());
         assert_eq!(rt; left.notes.as_slice(), b"panto: read fault\n".as_slice());
         assert_eq!(rt; left.status.code(), 3);
@@ -174,13 +188,13 @@ fn output_fails_at_each_byte(rt: HostRuntime) -> Result<(), Fail> {
     let alloc = rt.alloc();
     for room in 0..ECHOED.len() {
         let mut source = source(alloc, ECHO.as_bytes(), 7, Vec::new(alloc))?;
-        let left = run_over(alloc, "run", "", &mut source, room)?;
+        let left = run_over(&rt, alloc, "run", "", &mut source, room)?;
         assert_eq!(rt; left.output.as_slice(), &ECHOED.as_bytes()[..room]);
         assert_eq!(rt; left.notes.as_slice(), b"panto: write fault\n".as_slice());
         assert_eq!(rt; left.status.code(), 4);
     }
     let mut none = source(alloc, b"", 1, Vec::new(alloc))?;
-    let left = run_over(alloc, "check F", "prim a : *;", &mut none, 9)?;
+    let left = run_over(&rt, alloc, "check F", "prim a : *;", &mut none, 9)?;
     assert_eq!(rt; left.output.as_slice(), b"checked 1".as_slice());
     assert_eq!(rt; left.status.code(), 4);
     Ok(())
@@ -214,7 +228,7 @@ fn longest_line_and_one_byte_more(rt: HostRuntime) -> Result<(), Fail> {
     for (blanks, wanted) in rows {
         let bytes = wide_line(alloc, blanks)?;
         let mut source = source(alloc, &bytes, 5000, Vec::new(alloc))?;
-        let left = run_over(alloc, "run", "", &mut source, 1000)?;
+        let left = run_over(&rt, alloc, "run", "", &mut source, 1000)?;
         assert_eq!(rt; left.output.as_slice(), wanted);
         assert_eq!(rt; left.status.code(), 0);
     }
@@ -282,12 +296,14 @@ fn each_reply_is_flushed_before_the_next_read(rt: HostRuntime) -> Result<(), Fai
     let mut output = Counting { flushes: &flushes };
     let mut notes = MemorySink::new(alloc, 0, 100, Vec::new(alloc));
     let status = panto_run(
+        &rt,
         alloc,
         &words,
         &mut shelf,
         &mut input,
         &mut output,
         &mut notes,
+        &OpenGate,
     );
     assert_eq!(rt; status.code(), 0);
     assert_eq!(rt; flushes.get(), 5);

@@ -1,4 +1,4 @@
-use Rattle.std.proofs.Common.{◌≡◌, ◌∙◌, ap, ap₂, codes, [], ◌∷◌, map}
+use Rattle.std.proofs.Common.{◌∙◌, ap, ap₂, codes, [], ◌∷◌, map}
 use Rattle.reply_text.specs.Members.{string}
 use Rattle.reply_text.specs.Context.{context_json}
 use Rattle.command_set.proofs.Shown.{front_is}

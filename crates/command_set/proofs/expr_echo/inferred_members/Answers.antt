@@ -1,4 +1,4 @@
-use Rattle.std.proofs.Common.{◌≡◌, ◌≢◌, ◌∙◌, sym, subst, IfOk, [], None, Ok}
+use Rattle.std.proofs.Common.{◌≡◌, ◌≢◌, ◌∙◌, subst, IfOk, [], None, Ok}
 use Rattle.conversion.specs.Globals.{context_of, env_of}
 use Rattle.conversion.specs.Runs.{Gave}
 use Rattle.kernel_check.specs.Inference.{infer}

@@ -12,9 +12,17 @@ pub returns-clause-no_goal : goal.returns-clause-no_goal
 unfolding move_refusal escape_byte digits
 returns-clause-no_goal c = refl
 
-pub returns-clause-not_yet : goal.returns-clause-not_yet
+pub returns-clause-no_assumption : goal.returns-clause-no_assumption
 unfolding move_refusal escape_byte digits
-returns-clause-not_yet c = refl
+returns-clause-no_assumption c = refl
+
+pub returns-clause-not_defined : goal.returns-clause-not_defined
+unfolding move_refusal escape_byte digits
+returns-clause-not_defined c = refl
+
+pub returns-clause-no_occurrence : goal.returns-clause-no_occurrence
+unfolding move_refusal escape_byte digits
+returns-clause-no_occurrence c = refl
 
 pub returns-clause-not_product : goal.returns-clause-not_product
 unfolding move_refusal escape_byte digits

@@ -16,7 +16,7 @@ use Rattle.move_set.specs.Refusals.{Elab, Unsolved}
 use Rattle.move_set.specs.Moves.{moved}
 use Rattle.move_set.proofs.Worked.{refines, settles, applies, refuses_asked}
 use Rattle.state_print.specs.Examples.{one_entry, two_entries, proved}
-use Rattle.state_print.specs.Pieces.{goals_json, proof_json, theorem_json}
+use Rattle.state_print.specs.Pieces.{goals_json, dormant_json, proof_json, theorem_json}
 use Rattle.reply_text.specs.Refusals.{kernel}
 use Rattle.reply_text.specs.Shown.{term_json}
 use Rattle.reply_text.specs.Context.{shown_names, context_json}
@@ -29,7 +29,7 @@ unfolding read finish form name term whole abstraction product arrows app applie
 exact_gives = settles _ _ _ _ _ refl refl is_named refl refl
 
 pub returns-clause-exact : goal.returns-clause-exact
-unfolding goals_json proof_json theorem_json term_json shown_names context_json escape_byte digits
+unfolding goals_json dormant_json proof_json theorem_json term_json shown_names context_json escape_byte digits
 returns-clause-exact c = ap made exact_gives
 
 refine_gives : moved two_entries 0 (codes "refine ?") 100000 true ≡ Gave refined 99995
@@ -37,7 +37,7 @@ unfolding read finish form name term whole abstraction product arrows app applie
 refine_gives = refines _ _ _ _ _ refl refl is_asked refl
 
 pub returns-clause-refine : goal.returns-clause-refine
-unfolding goals_json proof_json theorem_json term_json shown_names context_json escape_byte digits
+unfolding goals_json dormant_json proof_json theorem_json term_json shown_names context_json escape_byte digits
 returns-clause-refine c = ap made refine_gives
 
 apply_gives : moved two_entries 0 (codes "apply fun (y : A) => y") 100000 true ≡ Gave after_apply 99987
@@ -45,7 +45,7 @@ unfolding read finish form name term whole abstraction product arrows app applie
 apply_gives = applies _ _ _ _ _ refl refl (is_function is_named is_named) refl
 
 pub returns-clause-apply : goal.returns-clause-apply
-unfolding goals_json proof_json theorem_json term_json shown_names context_json escape_byte digits
+unfolding goals_json dormant_json proof_json theorem_json term_json shown_names context_json escape_byte digits
 returns-clause-apply c = ap made apply_gives
 
 mismatch_gives : moved one_entry 0 (codes "exact A") 100000 true ≡ Refused (Elab (Unify (Mismatch 1 Star (Pi (Var 0) (Var 1))))) 99998

@@ -1,4 +1,4 @@
-use Rattle.std.proofs.Common.{◌≡◌, ◌∙◌, sym, ap}
+use Rattle.std.proofs.Common.{◌∙◌, sym, ap}
 use Rattle.goal_state.specs.State.{State}
 use Rattle.state_tree.specs.Value.{Says}
 use Rattle.command_set.specs.Goals.{move_on}

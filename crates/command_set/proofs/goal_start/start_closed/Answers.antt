@@ -1,4 +1,4 @@
-use Rattle.std.proofs.Common.{◌≡◌, ℕ, ◌∙◌, sym, ap, subst, IfOk}
+use Rattle.std.proofs.Common.{ℕ, ◌∙◌, sym, ap, subst, IfOk}
 use Rattle.goal_state.specs.Starting.{started}
 use Rattle.meta_context.specs.Plain.{plain_items}
 use Rattle.state_tree.specs.Value.{Says, Gives}

@@ -1,4 +1,4 @@
-use Rattle.std.proofs.Common.{◌≡◌, ◌≢◌, subst, ◌∙◌, ap, sym, IfOk, None}
+use Rattle.std.proofs.Common.{◌≡◌, ◌≢◌, subst, ◌∙◌, ap, sym, None}
 use Rattle.kernel_check.specs.declared.fault.KernelFault.TheVariants as fault
 use Rattle.goal_state.specs.Answers.{ShowsStart}
 use Rattle.reply_text.specs.Showable.{fault_members}

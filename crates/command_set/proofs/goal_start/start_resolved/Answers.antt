@@ -1,4 +1,4 @@
-use Rattle.std.proofs.Common.{◌≡◌, ◌∙◌, sym, ap, subst, IfOk}
+use Rattle.std.proofs.Common.{◌∙◌, sym, ap, subst, IfOk}
 use Rattle.meta_context.specs.Plain.{plain_items}
 use Rattle.state_tree.specs.Value.{Says, Gives}
 use Rattle.command_set.specs.Goals.{Given, says}

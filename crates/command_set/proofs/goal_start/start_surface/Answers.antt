@@ -1,4 +1,4 @@
-use Rattle.std.proofs.Common.{◌≡◌, ◌∙◌, subst, IfOk}
+use Rattle.std.proofs.Common.{◌∙◌, subst, IfOk}
 use Rattle.state_tree.specs.Value.{Gives}
 use Rattle.command_set.specs.Goals.{Given}
 use Rattle.command_set.proofs.Begun.{start_again}

@@ -1,7 +1,7 @@
 use Rattle.panto_cli.proofs.run.run_form.Goals as goal
 
 pub returns-in-Run-clause-ends : goal.returns-in-Run-clause-ends
-returns-in-Run-clause-ends g c = rw c.in-Run.is (c.serve_input.ensures.ends _)
+returns-in-Run-clause-ends g c = rw c.in-Run.is c.serve_input.ensures.ends
 
 pub returns-in-Check-clause-ends : goal.returns-in-Check-clause-ends
 returns-in-Check-clause-ends g c = rw c.in-Check.is (c.check_book.ensures.ends _ _)
