@@ -1,0 +1,9 @@
+pub mod KeptStates
+pub mod Journals
+pub mod AtTurns
+pub mod GrowingViews
+pub mod NewPasses
+pub mod TakingBack
+pub mod AtClosing
+pub mod Crossing
+pub mod LookingAgain
