@@ -5,7 +5,7 @@ use Rattle.command_line.specs.Given.{Text}
 
 -- the subcommands
 abbrev pub is_built_name : Text → Bool
-is_built_name name = bytes_eq name (codes "run") || bytes_eq name (codes "check")
+is_built_name name = bytes_eq name (codes "run") || bytes_eq name (codes "check") || bytes_eq name (codes "demo")
 
 abbrev pub is_built : List Text → Bool
 is_built [] = false

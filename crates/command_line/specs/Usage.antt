@@ -5,3 +5,4 @@ abbrev pub usage_note : List ℕ
 usage_note =
     codes "usage: panto run [--book FILE] [--entries N] [--workers N]\n"
     ++ codes "       panto check FILE\n"
+    ++ codes "       panto demo SEED COUNT\n"

@@ -21,6 +21,8 @@ WorkedForms =
     Has (codes "run") (Some (run None 65536 1))
     × Has (codes "run --entries 3 --book a") (Some (run (Some (codes "a")) 3 1))
     × Has (codes "check a") (Some (check (codes "a")))
+    × Has (codes "demo 007 01") (Some (demo 7 1))
+    × Has (codes "demo 9999999999999999999 10000") (Some (demo 9999999999999999999 10000))
     -- an option with `=`, whose value may begin with `-` and hold a further `=`
     × Has (codes "run --book=a=b") (Some (run (Some (codes "a=b")) 65536 1))
     × Has (codes "run --book=-x --entries=7") (Some (run (Some (codes "-x")) 7 1))
@@ -57,17 +59,14 @@ WorkedRefusals =
     × Has (codes "run --book=") None
     × Has (codes "check a=") None
     × Has (codes "check ") None
+    × Has (codes "demo 00000000000000000001 0") None
+    × Has (codes "demo 7 10001") None
+    × Has (codes "demo 7") None
     -- what is not built
     × Has (codes "serve --listen a:1") None
-    × Has (codes "demo 7 1") None
 
 abbrev pub WorkedLater : Type 0
 WorkedLater =
     WillHave (codes "serve --sessions 2 --listen a:1") (Some (serve (codes "a:1") None 65536 1 2))
     × WillHave (codes "serve --book b --listen a:1 --workers 3 --entries 4") (Some (serve (codes "a:1") (Some (codes "b")) 4 3 1))
     × WillHave (codes "serve --book b") None
-    × WillHave (codes "demo 007 01") (Some (demo 7 1))
-    × WillHave (codes "demo 9999999999999999999 10000") (Some (demo 9999999999999999999 10000))
-    × WillHave (codes "demo 00000000000000000001 0") None
-    × WillHave (codes "demo 7 10001") None
-    × WillHave (codes "demo 7") None

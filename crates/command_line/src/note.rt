@@ -7,5 +7,5 @@ ghost use Rattle.command_line.specs.Usage.{usage_note};
 pub fn usage() -> &'static str
     ensures { result.now ≡ usage_note }
 {
-    "usage: panto run [--book FILE] [--entries N] [--workers N]\n       panto check FILE\n"
+    "usage: panto run [--book FILE] [--entries N] [--workers N]\n       panto check FILE\n       panto demo SEED COUNT\n"
 }

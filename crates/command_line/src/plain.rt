@@ -35,5 +35,5 @@ pub fn is_built(words: &[String]) -> bool
 fn is_built_name(name: &str) -> bool
     ensures { result ≡ is_built_name name.now }
 {
-    name == "run" || name == "check"
+    name == "run" || name == "check" || name == "demo"
 }

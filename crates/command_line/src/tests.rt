@@ -50,7 +50,8 @@ fn words_have_their_forms(rt: HostRuntime) -> Result<(), Fail> {
         ("check", None),
         ("check a b", None),
         ("check -- x", None),
-        ("demo 7 1", None),
+        ("demo 007 01", Some(Form::Demo { seed: 7, count: 1 })),
+        ("demo 7 10001", None),
         ("", None),
     ];
     for (line, form) in rows {
@@ -74,9 +75,7 @@ fn forms_that_are_not_built_are_read(rt: HostRuntime) -> Result<(), Fail> {
                 sessions: 2,
             }),
         ),
-        ("demo 007 01", Some(Form::Demo { seed: 7, count: 1 })),
         ("serve --book b", None),
-        ("demo 7 10001", None),
     ];
     for (line, form) in rows {
         let words = words_in(rt.alloc(), line)?;

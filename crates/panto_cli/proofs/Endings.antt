@@ -9,7 +9,8 @@ use Rattle.panto_cli.specs.Books.{Items, Accepts, IsNoBook}
 use Rattle.panto_cli.specs.Ends.{Counted, HasRisen, Ends}
 use Rattle.panto_cli.specs.Notes.{IsNote}
 use Rattle.panto_cli.specs.Outcomes.{status_in, line_of, outcome_without}
-use Rattle.panto_cli.specs.Run.{Answered, Runs, Leaves, IsServed, checked_line}
+use Rattle.panto_cli.specs.Demo.{demo_line}
+use Rattle.panto_cli.specs.Run.{Answered, Runs, Demos, Leaves, IsServed, checked_line}
 use Rattle.panto_cli.specs.declared.book.NoBook.{NoBook}
 use Rattle.panto_cli.specs.declared.book.NoBook.TheVariants as no_book
 use Rattle.panto_cli.specs.declared.notes.Outcome.{Outcome}
@@ -80,13 +81,24 @@ module _ (books : Option (List NamedBytes)) (input out : Option (List ℕ)) (she
     complete = λ items told accepts calm. inr refl;
   }
 
+  -- memory ran out in a demo
+  pub demo_without : (seed count : ℕ) → Ends books (Some (demo seed count)) input input out out shelf source sink (outcome.Plain Memory)
+  demo_without seed count = record {
+    leaves = kept out;
+    note = refl;
+    opened = λ e. absurd cc;
+    read = λ e. absurd cc;
+    write = λ e. absurd cc;
+    complete = λ calm. inr refl;
+  }
+
   -- there was no memory to read the words
   pub words_unread : (form : Option Command) → Ends books form input input out out shelf source sink (outcome.Plain Memory)
   words_unread None = record { leaves = (kept out, inr refl); note = refl; opened = λ e. absurd cc; read = λ e. absurd cc; write = λ e. absurd cc; complete = tt }
   words_unread (Some (run book entries workers)) = run_without book entries workers no_book.Memory tt
   words_unread (Some (serve listen book entries workers sessions)) = record { leaves = (kept out, inr refl); note = refl; opened = λ e. absurd cc; read = λ e. absurd cc; write = λ e. absurd cc; complete = tt }
   words_unread (Some (check file)) = check_without file no_book.Memory tt
-  words_unread (Some (demo seed count)) = record { leaves = (kept out, inr refl); note = refl; opened = λ e. absurd cc; read = λ e. absurd cc; write = λ e. absurd cc; complete = tt }
+  words_unread (Some (demo seed count)) = demo_without seed count
 
 -- ---- a run over a book
 
@@ -135,6 +147,26 @@ module _ (books : Option (List NamedBytes)) (input left out out' : Option (List 
     complete = λ items told accepts calm. absurd (calm (inr (inr rose)));
   }
 
+  pub demo_done : (seed count : ℕ) → Appends out out' (demo_line seed count) → Ends books (Some (demo seed count)) input left out out' shelf source sink (outcome.Plain Done)
+  demo_done seed count line = record {
+    leaves = line;
+    note = refl;
+    opened = λ e. absurd cc;
+    read = λ e. absurd cc;
+    write = λ e. absurd cc;
+    complete = λ calm. inl refl;
+  }
+
+  pub demo_cut : (seed count : ℕ) → AppendsPrefix out out' (demo_line seed count) → HasRisen sink → Ends books (Some (demo seed count)) input left out out' shelf source sink (outcome.Plain WriteFault)
+  demo_cut seed count line rose = record {
+    leaves = line;
+    note = refl;
+    opened = λ e. absurd cc;
+    read = λ e. absurd cc;
+    write = λ _. rose;
+    complete = λ calm. absurd (calm (inr (inr rose)));
+  }
+
 -- ---- words of no form that is served
 
 module _ (books : Option (List NamedBytes)) (input left out out' : Option (List ℕ)) where
@@ -143,11 +175,11 @@ module _ (books : Option (List NamedBytes)) (input left out out' : Option (List 
   usage_of (Some (run book entries workers)) status l e served = subst (λ s. Runs books book entries input left out out' s) e l
   usage_of (Some (serve listen book entries workers sessions)) status l e served = served
   usage_of (Some (check file)) status l e served = subst (λ s. Leaves books (Some (check file)) input left out out' s) e l
-  usage_of (Some (demo seed count)) status l e served = served
+  usage_of (Some (demo seed count)) status l e served = subst (λ s. Demos seed count out out' s) e l
 
   pub refused_of : (form : Option Command) (status : Status) → Leaves books form input left out out' status → ¬ IsServed form → (status ≡ Usage) ⊎ (status ≡ Memory)
   refused_of None status l unserved = l.1
   refused_of (Some (run book entries workers)) status l unserved = absurd (unserved tt)
   refused_of (Some (serve listen book entries workers sessions)) status l unserved = l.1
   refused_of (Some (check file)) status l unserved = absurd (unserved tt)
-  refused_of (Some (demo seed count)) status l unserved = l.1
+  refused_of (Some (demo seed count)) status l unserved = absurd (unserved tt)

@@ -110,10 +110,10 @@ module _ (items : Items) (entries : ℕ) (input left out out' : Option (List ℕ
 
   -- of an input within its limit, with room for every request
   module _ (bytes : List ℕ) (known : input ≡ Some bytes) (short : length bytes ≤ 2 ^ 40) (room : length (requests_of_input bytes) ≤ entries) where
-    entered : (end : End) (s : Ran end) → EntersOf bytes left (requests_in s.entries) end
+    pub entered : (end : End) (s : Ran end) → EntersOf bytes left (requests_in s.entries) end
     entered end s = subst (λ i. IfSome i (λ b. EntersOf b left (requests_in s.entries) end)) known s.entered
 
-    not_full : (n : ℕ) → Ran (ending.Full n) → ⊥
+    pub not_full : (n : ℕ) → Ran (ending.Full n) → ⊥
     not_full n s =
         let some = entered (ending.Full n) s in
         let all = ap length some.2 ∙ length-append (requests_in s.entries) (some.0 ∷ some.1) in

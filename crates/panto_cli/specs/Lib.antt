@@ -3,5 +3,6 @@ pub mod Status
 pub mod Books
 pub mod Outcomes
 pub mod Notes
+pub mod Demo
 pub mod Run
 pub mod Ends

@@ -15,6 +15,7 @@ use Rattle.session_server.specs.Session.{Session}
 use Rattle.session_server.specs.MemoryLines.{ShowsMemory}
 use Rattle.session_server.specs.declared.run.End.{End}
 use Rattle.panto_cli.specs.Books.{Items, Accepts, Refuses, IsTold}
+use Rattle.panto_cli.specs.Demo.{demo_line}
 use Rattle.panto_cli.specs.Status.{status_of}
 use Rattle.panto_cli.specs.declared.status.Status.{Status}
 use Rattle.panto_cli.specs.declared.status.Status.TheVariants.{Done, Usage, WriteFault, BookRefused, OpenFault, Worn, Memory}
@@ -25,7 +26,7 @@ IsServed None = ⊥
 IsServed (Some (run book entries workers)) = Unit {0}
 IsServed (Some (serve listen book entries workers sessions)) = ⊥
 IsServed (Some (check file)) = Unit {0}
-IsServed (Some (demo seed count)) = ⊥
+IsServed (Some (demo seed count)) = Unit {0}
 
 -- the words are those of a session
 abbrev pub IsRun : Option Command → Type 0
@@ -81,6 +82,13 @@ Checks books file out out' OpenFault = Keeps out out'
 Checks books file out out' Memory = Keeps out out'
 Checks books file out out' status = ⊥
 
+-- what `demo` leaves
+abbrev pub Demos : ℕ → ℕ → Option (List ℕ) → Option (List ℕ) → Status → Type 0
+Demos seed count out out' Done = Appends out out' (demo_line seed count)
+Demos seed count out out' WriteFault = AppendsPrefix out out' (demo_line seed count)
+Demos seed count out out' Memory = Keeps out out'
+Demos seed count out out' status = ⊥
+
 -- words of no form that is served leave nothing
 abbrev pub LeavesNothing : Option (List ℕ) → Option (List ℕ) → Status → Type 0
 LeavesNothing out out' status = Keeps out out' × ((status ≡ Usage) ⊎ (status ≡ Memory))
@@ -91,7 +99,7 @@ Leaves books None input left out out' status = LeavesNothing out out' status
 Leaves books (Some (run book entries workers)) input left out out' status = Runs books book entries input left out out' status
 Leaves books (Some (serve listen book entries workers sessions)) input left out out' status = LeavesNothing out out' status
 Leaves books (Some (check file)) input left out out' status = Checks books file out out' status
-Leaves books (Some (demo seed count)) input left out out' status = LeavesNothing out out' status
+Leaves books (Some (demo seed count)) input left out out' status = Demos seed count out out' status
 
 -- the run came to its end, or memory ran out
 abbrev pub Completed : Status → Type 0
@@ -107,9 +115,13 @@ CompletesRun books file entries input rose status = (items : Items) (bytes : Lis
 abbrev pub CompletesCheck : Option (List NamedBytes) → Text → Type 0 → Status → Type 0
 CompletesCheck books file rose status = (items : Items) → IsTold books (Some file) → Accepts books (Some file) items → ¬ rose → Completed status
 
+-- nor of `demo`
+abbrev pub CompletesDemo : Type 0 → Status → Type 0
+CompletesDemo rose status = ¬ rose → Completed status
+
 abbrev pub Completes : Option (List NamedBytes) → Option Command → Option (List ℕ) → Type 0 → Status → Type 0
 Completes books None input rose status = Unit {0}
 Completes books (Some (run book entries workers)) input rose status = CompletesRun books book entries input rose status
 Completes books (Some (serve listen book entries workers sessions)) input rose status = Unit {0}
 Completes books (Some (check file)) input rose status = CompletesCheck books file rose status
-Completes books (Some (demo seed count)) input rose status = Unit {0}
+Completes books (Some (demo seed count)) input rose status = CompletesDemo rose status

@@ -4,6 +4,8 @@
 
 mod book;
 mod check;
+mod counts;
+mod demo;
 mod host;
 mod notes;
 mod pieces;

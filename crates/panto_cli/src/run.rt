@@ -16,6 +16,7 @@ ghost use Rattle.panto_cli.specs.Run.{Answered, Leaves, Completes, IsServed, IsR
 
 use crate::book::open_book;
 use crate::check::{check_book, outcome_without};
+use crate::demo::run_demo;
 use crate::host::Host;
 use crate::notes::{Outcome, write_outcome};
 use crate::status::{Status, status_of};
@@ -126,7 +127,7 @@ fn run_form<R: Threads + Sync, H: Shelf, S: Source, K: Sink, G: Gate>(
         } => serve_input(host, shelf, book, entries, workers, input, output),
         Form::Check { file } => check_book(host.alloc, shelf, file, output),
         Form::Serve { .. } => Outcome::Plain(Status::Usage),
-        Form::Demo { .. } => Outcome::Plain(Status::Usage),
+        Form::Demo { seed, count } => run_demo(host, seed, count, output),
     }
 }
 
@@ -161,7 +162,8 @@ fn run_words<R: Threads + Sync, H: Shelf, S: Source, K: Sink, G: Gate>(
 ///
 /// `run [--book FILE] [--entries N] [--workers N]` answers the requests of the input, one line each,
 /// over the book that the shelf has under FILE, with the moves of a line of tries made by N workers, of
-/// whose jobs the gate hears; `check FILE` prints how many items a book has. Where the input and
+/// whose jobs the gate hears; `check FILE` prints how many items a book has;
+/// `demo SEED COUNT` runs so many rounds of the session that the seed gives, and prints what they come to. Where the input and
 /// the shelf tell their bytes, the output is, however they are cut into reads, what `specs/Run.antt`
 /// says by the status: the replies of the one-thread server to the requests of the lines, in order.
 /// It always returns.

@@ -3,6 +3,8 @@
 ghost use Rattle.std.specs.Prelude.{None};
 ghost use Rattle.std.proofs.Common.{rules};
 
+mod demo;
+
 use super::*;
 use pan_io::{Book, Failed, MemoryShelf, MemorySink, MemorySource, Sink, Source};
 use std::alloc::{AllocError, Global};
@@ -17,7 +19,7 @@ const ECHOED: &str =
     "{\"expr\":\"fun (%0 : *) => fun (%1 : %0) => %1\",\"seq\":0,\"type\":\"(%0 : *) -> %0 -> %0\"}\n";
 
 const USAGE: &str =
-    "usage: panto run [--book FILE] [--entries N] [--workers N]\n       panto check FILE\n";
+    "usage: panto run [--book FILE] [--entries N] [--workers N]\n       panto check FILE\n       panto demo SEED COUNT\n";
 
 const BOOK: &str =
     "prim N : *; prim a : N(); prim b : N(); prim c : N(); prim le (x : N()) (y : N()) : *; \
@@ -157,7 +159,7 @@ fn worked_words(rt: HostRuntime) -> Result<(), Fail> {
         "run --workers 65",
         "serve",
         "check",
-        "demo 7 1",
+        "demo 7 10001",
         "",
     ];
     for line in lines {
