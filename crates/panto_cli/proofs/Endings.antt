@@ -116,7 +116,7 @@ module _ (books : Option (List NamedBytes)) (input left out out' : Option (List 
     complete = λ _ _ _ _ _ _ _ _. inr m.0;
   }
   run_over file entries workers items o accepts (inr a) note read write = record {
-    leaves = subst (λ s. Runs books file entries input left out out' s) (sym a.named) (runs_so items entries input left out out' a.tree books file accepts a.legal a.end a.session a.shown);
+    leaves = subst (λ s. Runs books file entries input left out out' s) (sym a.named) (runs_so items entries input left out out' a.tree books file accepts a.legal a.room a.end a.session a.shown);
     note = note;
     opened = λ e. absurd (no_open a.end (sym a.named ∙ e));
     read = read;

@@ -80,23 +80,23 @@ module _ (items : Items) (entries : ℕ) (input left out out' : Option (List ℕ
   proofs_shown : (books : Option (List NamedBytes)) (file : Option Text) → Accepts books file items → AllPrintSoundly items tree.journal
   proofs_shown books file accepts = printed_proofs_are_proofs items tree.journal (book_is_sound books file items accepts)
 
-  pub runs_so : (books : Option (List NamedBytes)) (file : Option Text) → Accepts books file items → IsLegal {S = State} value items tree.journal → (end : End) → Ran end → ShowsMemory 0 tree.journal out out' end → Runs books file entries input left out out' (status_of end)
-  runs_so books file accepts legal ending.Done s shown = (items, accepts, record { end = ending.Done; named = refl; tree = tree; session = s; legal = legal; shown = shown }, proofs_shown books file accepts)
-  runs_so books file accepts legal ending.ReadFault s shown = (items, accepts, record { end = ending.ReadFault; named = refl; tree = tree; session = s; legal = legal; shown = shown }, proofs_shown books file accepts)
-  runs_so books file accepts legal ending.WriteFault s shown = (items, accepts, record { end = ending.WriteFault; named = refl; tree = tree; session = s; legal = legal; shown = shown }, proofs_shown books file accepts)
-  runs_so books file accepts legal (ending.Full n) s shown = (items, accepts, record { end = ending.Full n; named = refl; tree = tree; session = s; legal = legal; shown = shown }, proofs_shown books file accepts)
-  runs_so books file accepts legal (ending.Worn n) s shown = absurd s.tells
-  runs_so books file accepts legal (ending.Long n) s shown = (items, accepts, record { end = ending.Long n; named = refl; tree = tree; session = s; legal = legal; shown = shown }, proofs_shown books file accepts)
-  runs_so books file accepts legal ending.Memory s shown = inr (items, accepts, record { end = ending.Memory; named = refl; tree = tree; session = s; legal = legal; shown = shown }, proofs_shown books file accepts)
+  pub runs_so : (books : Option (List NamedBytes)) (file : Option Text) → Accepts books file items → IsLegal {S = State} value items tree.journal → length tree.journal ≤ entries → (end : End) → Ran end → ShowsMemory 0 tree.journal out out' end → Runs books file entries input left out out' (status_of end)
+  runs_so books file accepts legal room ending.Done s shown = (items, accepts, record { end = ending.Done; named = refl; tree = tree; session = s; legal = legal; room = room; shown = shown }, proofs_shown books file accepts)
+  runs_so books file accepts legal room ending.ReadFault s shown = (items, accepts, record { end = ending.ReadFault; named = refl; tree = tree; session = s; legal = legal; room = room; shown = shown }, proofs_shown books file accepts)
+  runs_so books file accepts legal room ending.WriteFault s shown = (items, accepts, record { end = ending.WriteFault; named = refl; tree = tree; session = s; legal = legal; room = room; shown = shown }, proofs_shown books file accepts)
+  runs_so books file accepts legal room (ending.Full n) s shown = (items, accepts, record { end = ending.Full n; named = refl; tree = tree; session = s; legal = legal; room = room; shown = shown }, proofs_shown books file accepts)
+  runs_so books file accepts legal room (ending.Worn n) s shown = absurd s.tells
+  runs_so books file accepts legal room (ending.Long n) s shown = (items, accepts, record { end = ending.Long n; named = refl; tree = tree; session = s; legal = legal; room = room; shown = shown }, proofs_shown books file accepts)
+  runs_so books file accepts legal room ending.Memory s shown = inr (items, accepts, record { end = ending.Memory; named = refl; tree = tree; session = s; legal = legal; room = room; shown = shown }, proofs_shown books file accepts)
 
   own_lines : (end : End) → Ran end → ((es : List Entry) → Adds (opened items entries) tree es → ShowsMemory 0 es out out' end) → ShowsMemory 0 tree.journal out out' end
   own_lines end s shows = subst (λ es. ShowsMemory 0 es out out' end) (sym (ap (λ (t : TreeModel Items). t.journal) s.adds.grows)) (shows s.entries s.adds)
 
   -- what a session over a new tree leaves
   pub answered_so : (old : TreeModel Items) → old.book ≡ items → old.entries ≡ entries → old.journal ≡ [] → (end : End) → Session {S = State} value input left old tree out out' end
-      → IsLegal {S = State} value tree.book tree.journal → ((es : List Entry) → Adds old tree es → ShowsMemory (length old.journal) es out out' end)
+      → IsLegal {S = State} value tree.book tree.journal → length tree.journal ≤ tree.entries → ((es : List Entry) → Adds old tree es → ShowsMemory (length old.journal) es out out' end)
       → (o : Outcome) → o ≡ outcome_of end → Answered items entries input left out out' (status_in o)
-  answered_so old b e j end s legal shows o is =
+  answered_so old b e j end s legal within shows o is =
       let same : old ≡ opened items entries = λ i. record { book = b i; entries = e i; journal = j i } in
       let own : Ran end = subst (λ (g : TreeModel Items). Session {S = State} value input left g tree out out' end) same s in
       record {
@@ -105,6 +105,7 @@ module _ (items : Items) (entries : ℕ) (input left out out' : Option (List ℕ
         tree = tree;
         session = own;
         legal = subst (λ (b : Items). IsLegal {S = State} value b tree.journal) (ap (λ (t : TreeModel Items). t.book) own.adds.grows) legal;
+        room = subst (λ n. length tree.journal ≤ n) (ap (λ (t : TreeModel Items). t.entries) own.adds.grows) within;
         shown = own_lines end own (subst (λ (g : TreeModel Items). (es : List Entry) → Adds g tree es → ShowsMemory (length g.journal) es out out' end) same shows);
       }
 

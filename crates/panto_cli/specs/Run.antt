@@ -41,7 +41,8 @@ abbrev pub opened : Items → ℕ → TreeModel Items
 opened items entries = record { book = items; entries = entries; journal = [] }
 
 -- A session over the input answered its requests, as pass 0 of a tree over the book, and ended as the status names. Session says which
--- requests were entered, and that the output has their replies by the one-thread server. The history that it leaves is legal over the book.
+-- requests were entered, and that the output has their replies by the one-thread server. The history that it leaves is legal over the book,
+-- and has no more entries than the words leave room for, so that Full comes exactly where a further request was to be entered.
 -- Each reply is a line of the output, and entry i says Memory exactly where line i is the memory line `{"error":"memory","seq":i}`, so that
 -- the requests and the output fix the history. At a write fault the last entries may be without lines.
 pub record Answered (items : Items) (entries : ℕ) (input left out out' : Option (List ℕ)) (status : Status) : Type 0 where
@@ -50,6 +51,7 @@ pub record Answered (items : Items) (entries : ℕ) (input left out out' : Optio
   pub tree : TreeModel Items
   pub session : Session {S = State} value input left (opened items entries) tree out out' end
   pub legal : IsLegal {S = State} value items tree.journal
+  pub room : length tree.journal ≤ entries
   pub shown : ShowsMemory 0 tree.journal out out' end
 
 -- A session over the book that the words name. Each reply that prints a state as solved shows a proof: the text under `term` reads, in the
