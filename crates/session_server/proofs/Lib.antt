@@ -1,6 +1,14 @@
 pub mod Fit
-pub mod MadeLemmas
-pub mod AnswerLemmas
 pub mod InputLemmas
+pub mod OwnLemmas
+pub mod SeesLemmas
+pub mod AnswerLemmas
+pub mod GoingLemmas
+pub mod LessMissed
+pub mod TryingLemmas
+pub mod MadeLemmas
 pub mod SessionLemmas
 pub mod MemoryLemmas
+pub mod OwnMemory
+pub mod Concluding
+pub mod AtBoards

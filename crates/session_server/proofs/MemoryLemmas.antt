@@ -5,17 +5,18 @@ use Rattle.std.proofs.lemmas.List.Splits.{slice_split-cons_yes, slice_split-cons
 use Rattle.std.specs.List.{onto_first}
 use Rattle.std.specs.Io.KnownBytes.{Appends}
 use Rattle.pan_io.specs.Text.{is_line_end, parts}
+use Rattle.repl_json.specs.Reply.{text}
 use Rattle.repl_json.specs.OneLine.{is_unbroken, memory_line}
 use Rattle.repl_json.specs.declared.request.Ask.{Ask}
 use Rattle.state_tree.specs.declared.work.Found.{Found}
 use Rattle.state_tree.specs.declared.work.Entry.{Entry}
 use Rattle.state_tree.specs.declared.work.Gave.TheVariants.{Memory}
 use Rattle.state_tree.specs.Value.{Value}
-use Rattle.state_tree.specs.Server.{PlainTree, seq_of, step, after_all, MayAll, opening, replay, IsLegal}
+use Rattle.state_tree.specs.Server.{PlainTree, seq_of, reply, step, after_all, MayAll, opening, replay, IsLegal}
 use Rattle.state_tree.specs.Replies.{IsShown, RepliesAreShown}
 use Rattle.state_tree.specs.TreeModel.{TreeModel}
 use Rattle.state_tree.specs.Enters.{tree_of}
-use Rattle.session_server.specs.Entered.{Adds, output_of}
+use Rattle.session_server.specs.Entered.{Adds, with_entries, output_of}
 use Rattle.session_server.specs.Session.{Session}
 use Rattle.session_server.specs.MemoryLines.{MarksMemory, ShowsMemory}
 use Rattle.session_server.specs.declared.run.End.{End}
@@ -45,28 +46,28 @@ no_end x xs h = is_not (is_line_end x) (and_left (not (is_line_end x)) (is_unbro
 no_ends : (x : ℕ) (xs : List ℕ) → is_unbroken (x ∷ xs) ≡ true → is_unbroken xs ≡ true
 no_ends x xs h = and_right (not (is_line_end x)) (is_unbroken xs) h
 
-parts_open : (xs : List ℕ) → is_unbroken xs ≡ true → parts xs ≡ xs ∷ []
+pub parts_open : (xs : List ℕ) → is_unbroken xs ≡ true → parts xs ≡ xs ∷ []
 parts_open [] h = refl
 parts_open (x ∷ xs) h = slice_split-cons_no is_line_end x xs (no_end x xs h) ∙ ap (onto_first x) (parts_open xs (no_ends x xs h))
 
-parts_line : (xs rest : List ℕ) → is_unbroken xs ≡ true → parts (xs ++ 10 ∷ rest) ≡ xs ∷ parts rest
+pub parts_line : (xs rest : List ℕ) → is_unbroken xs ≡ true → parts (xs ++ 10 ∷ rest) ≡ xs ∷ parts rest
 parts_line [] rest h = slice_split-cons_yes is_line_end 10 rest refl
 parts_line (x ∷ xs) rest h = slice_split-cons_no is_line_end x (xs ++ 10 ∷ rest) (no_end x xs h) ∙ ap (onto_first x) (parts_line xs rest (no_ends x xs h))
 
-unbroken_front : (xs ys : List ℕ) → is_unbroken (xs ++ ys) ≡ true → is_unbroken xs ≡ true
+pub unbroken_front : (xs ys : List ℕ) → is_unbroken (xs ++ ys) ≡ true → is_unbroken xs ≡ true
 unbroken_front [] ys h = refl
 unbroken_front (x ∷ xs) ys h =
     both (not (is_line_end x)) (is_unbroken xs) (and_left (not (is_line_end x)) (is_unbroken (xs ++ ys)) h) (unbroken_front xs ys (and_right (not (is_line_end x)) (is_unbroken (xs ++ ys)) h))
 
 -- the front of a text that begins with a line ends in that line, or goes past its end
-abbrev IsCut : List ℕ → List ℕ → List ℕ → List ℕ → Type 0
+abbrev pub IsCut : List ℕ → List ℕ → List ℕ → List ℕ → Type 0
 IsCut front rest xs more = ((tail : List ℕ) × (xs ≡ front ++ tail)) ⊎ ((past : List ℕ) × (front ≡ xs ++ 10 ∷ past) × (past ++ rest ≡ more))
 
 cut_more : (f x : ℕ) (front rest xs more : List ℕ) → f ≡ x → IsCut front rest xs more → IsCut (f ∷ front) rest (x ∷ xs) more
 cut_more f x front rest xs more e (inl h) = inl (h.0, (λ i. sym e i ∷ h.1 i))
 cut_more f x front rest xs more e (inr h) = inr (h.0, (λ i. e i ∷ h.1 i), h.2)
 
-cut_at : (front rest xs more : List ℕ) → front ++ rest ≡ xs ++ 10 ∷ more → IsCut front rest xs more
+pub cut_at : (front rest xs more : List ℕ) → front ++ rest ≡ xs ++ 10 ∷ more → IsCut front rest xs more
 cut_at [] rest xs more e = inl (xs, refl)
 cut_at (f ∷ front) rest [] more e = inr (front, ap (λ b. b ∷ front) (ap (λ l. get_or l 0 0) e), ap (drop 1) e)
 cut_at (f ∷ front) rest (x ∷ xs) more e = cut_more f x front rest xs more (ap (λ l. get_or l 0 0) e) (cut_at front rest xs more (ap (drop 1) e))
@@ -78,7 +79,7 @@ marks_more : (seq : ℕ) (line : List ℕ) (ps : List (List ℕ)) (entry : Entry
 marks_more seq line [] entry entries some here later = tt
 marks_more seq line (next ∷ more) entry entries some here later = (here, later)
 
-some_parts : (bs : List ℕ) → 0 < length (parts bs)
+pub some_parts : (bs : List ℕ) → 0 < length (parts bs)
 some_parts bs = omega (arith, length-slice_split is_line_end bs)
 
 none_left : (front rest : List ℕ) (seq : ℕ) → [] ≡ front ++ rest → MarksMemory seq (parts front) []
@@ -90,7 +91,7 @@ module _ {E S : Type 0} (V : Ask → Found E S → Value E S) (shown : RepliesAr
   first_line : (t : PlainTree E S) (entry : Entry) (entries : List Entry) (line : List ℕ) → IsShown V t entry line → output_of V t (entry ∷ entries) ≡ line ++ 10 ∷ output_of V (step V t entry) entries
   first_line t entry entries line h = ap (λ l. l ++ output_of V (step V t entry) entries) h.line.is ∙ append_assoc line (10 ∷ []) (output_of V (step V t entry) entries)
 
-  next_seq : (t : PlainTree E S) (entry : Entry) → seq_of (step V t entry) ≡ seq_of t + 1
+  pub next_seq : (t : PlainTree E S) (entry : Entry) → seq_of (step V t entry) ≡ seq_of t + 1
   next_seq t entry = length-append t.journal (entry ∷ [])
 
   by_cut : (t : PlainTree E S) (entry : Entry) (entries : List Entry) (front rest line : List ℕ) → IsShown V t entry line → IsCut front rest line (output_of V (step V t entry) entries)
@@ -122,7 +123,7 @@ module _ {E S : Type 0} (V : Ask → Found E S → Value E S) (shown : RepliesAr
 
   -- ---- a session
 
-  may_rest : (t : PlainTree E S) (xs ys : List Entry) → MayAll V t (xs ++ ys) → MayAll V (after_all V t xs) ys
+  pub may_rest : (t : PlainTree E S) (xs ys : List Entry) → MayAll V t (xs ++ ys) → MayAll V (after_all V t xs) ys
   may_rest t [] ys h = h
   may_rest t (x ∷ xs) ys h = may_rest (step V t x) xs ys h.1
 
@@ -130,15 +131,18 @@ module _ {E S : Type 0} (V : Ask → Found E S → Value E S) (shown : RepliesAr
   journal_after t [] = sym (append-nil t.journal)
   journal_after t (x ∷ xs) = journal_after (step V t x) xs ∙ append_assoc t.journal (x ∷ []) xs
 
-  may_added : (old new : TreeModel E) (entries : List Entry) → Adds old new entries → IsLegal V new.book new.journal → MayAll V (tree_of V old) entries
+  pub may_grown : (old new : TreeModel E) (entries : List Entry) → new ≡ with_entries old entries → IsLegal V new.book new.journal → MayAll V (tree_of V old) entries
   unfolding replay IsLegal
-  may_added old new entries adds legal = may_rest (opening V old.book) old.journal entries (subst (λ (g : TreeModel E). MayAll V (opening V g.book) g.journal) adds.grows legal)
+  may_grown old new entries grows legal = may_rest (opening V old.book) old.journal entries (subst (λ (g : TreeModel E). MayAll V (opening V g.book) g.journal) grows legal)
 
-  seq_is : (old : TreeModel E) → seq_of (tree_of V old) ≡ length old.journal
+  may_added : (old new : TreeModel E) (entries : List Entry) → Adds old new entries → IsLegal V new.book new.journal → MayAll V (tree_of V old) entries
+  may_added old new entries adds legal = may_grown old new entries adds.grows legal
+
+  pub seq_is : (old : TreeModel E) → seq_of (tree_of V old) ≡ length old.journal
   unfolding replay
   seq_is old = ap length (journal_after (opening V old.book) old.journal)
 
-  cancel : {A : Type 0} (xs ys zs : List A) → xs ++ ys ≡ xs ++ zs → ys ≡ zs
+  pub cancel : {A : Type 0} (xs ys zs : List A) → xs ++ ys ≡ xs ++ zs → ys ≡ zs
   cancel [] ys zs e = e
   cancel (x ∷ xs) ys zs e = cancel xs ys zs (ap (drop 1) e)
 

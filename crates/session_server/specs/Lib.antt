@@ -1,7 +1,13 @@
 pub mod Input
 pub mod Entered
+pub mod Own
+pub mod Sees
 pub mod Session
+pub mod PassSession
 pub mod MemoryLines
 pub mod Made
 pub mod Answers
+pub mod Desks
+pub mod Turns
+pub mod Links
 pub mod Progress

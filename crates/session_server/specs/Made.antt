@@ -1,11 +1,12 @@
 -- Requests that are made ready, each on what its look found.
-use Rattle.std.specs.Prelude.{◌≡◌, true, false, not, Option, Some, None, is_some, IfSome}
+use Rattle.std.specs.Prelude.{◌≡◌, ◌⊎◌, Bool, true, false, not, List, Option, Some, None, is_some, IfSome}
 use Rattle.repl_json.specs.declared.request.Ask.{Ask}
 use Rattle.repl_json.specs.declared.request.Request.{Request}
 use Rattle.state_tree.specs.declared.work.Found.{Found}
 use Rattle.state_tree.specs.Value.{Value}
 use Rattle.state_tree.specs.Server.{PlainTree, found_in}
 use Rattle.state_tree.specs.Again.{is_bad}
+use Rattle.state_tree.specs.TreeModel.{Holds}
 use Rattle.state_tree.specs.Prepared.{Prepared, IsPrepared, is_refused, nothing}
 
 module _ {E S : Type 0} where
@@ -13,6 +14,15 @@ module _ {E S : Type 0} where
   pub record IsLooked (t : PlainTree E S) (request : Request) (found : Option (Found E S)) : Type 0 where
     pub held : IfSome found (λ f. f ≡ found_in t request.ask)
     pub bad : is_bad request.ask ≡ true → is_some found ≡ true
+
+  -- the same of a look into an earlier tree: what it found is held
+  pub record IsKept (t : PlainTree E S) (request : Request) (found : Option (Found E S)) : Type 0 where
+    pub held : IfSome found (λ f. Holds t request.ask f)
+    pub bad : is_bad request.ask ≡ true → is_some found ≡ true
+
+  -- a prepared request was looked up in this tree, or given up
+  abbrev pub IsLookedUp : PlainTree E S → Prepared E S → Type 0
+  IsLookedUp t ready = (ready.given_up ≡ true) ⊎ ((ready.given_up ≡ false) × (ready.found ≡ found_in t ready.request.ask))
 
   abbrev pub or_nothing : Option (Found E S) → Found E S
   or_nothing None = nothing

@@ -5,6 +5,7 @@ use Rattle.pan_io.specs.Text.{parts}
 use Rattle.repl_json.specs.OneLine.{memory_line}
 use Rattle.state_tree.specs.declared.work.Entry.{Entry}
 use Rattle.state_tree.specs.declared.work.Gave.TheVariants.{Memory}
+use Rattle.session_server.specs.Own.{own, numbered}
 use Rattle.session_server.specs.declared.run.End.{End}
 use Rattle.session_server.specs.declared.run.End.TheVariants.{WriteFault}
 
@@ -23,3 +24,20 @@ pub record ShowsMemory (seq : ℕ) (entries : List Entry) (out out' : Option (Li
   pub taken : Appends out out' written
   pub marks : MarksMemory seq (parts written) entries
   pub all : end ≢ WriteFault → length (parts written) ≡ length entries + 1
+
+-- ---- of a session beside which other passes enter
+
+-- each line has its entry, and the entry is given with its number
+abbrev pub MarksOwn : List (List ℕ) → List (ℕ × Entry) → Type 0
+MarksOwn [] entries = Unit {0}
+MarksOwn (rest ∷ []) entries = Unit {0}
+MarksOwn (line ∷ next ∷ more) [] = ⊥
+MarksOwn (line ∷ next ∷ more) (entry ∷ entries) = ((entry.1.gave ≡ Memory) ↔ (line ≡ memory_line entry.0)) × MarksOwn (next ∷ more) entries
+
+-- What was written says by its lines which of the pass's own entries say Memory, where the first of these entries has this number. Only at a
+-- write fault the last ones may be without lines.
+pub record ShowsOwnMemory (pass seq : ℕ) (entries : List Entry) (out out' : Option (List ℕ)) (end : End) : Type 0 where
+  pub written : List ℕ
+  pub taken : Appends out out' written
+  pub marks : MarksOwn (parts written) (numbered pass seq entries)
+  pub all : end ≢ WriteFault → length (parts written) ≡ length (own pass entries) + 1

@@ -26,16 +26,16 @@ EntersOf input left requests (Long n) = (2 ^ 40 < length input) × (requests ≡
 EntersOf input left requests (Full n) = (next : Request) × (rest : List Request) × (requests_of_input input ≡ requests ++ next ∷ rest)
 -- the first ones
 EntersOf input left requests WriteFault = (rest : List Request) × (requests_of_input input ≡ requests ++ rest)
+EntersOf input left requests (Worn n) = (rest : List Request) × (requests_of_input input ≡ requests ++ rest)
 -- those of the first lines
 EntersOf input left requests Memory = (first : List (List ℕ)) × (rest : List (List ℕ)) × (lines_of input ≡ first ++ rest) × (requests ≡ requests_of_lines first)
-EntersOf input left requests (Worn n) = ⊥
 
 -- what was written: the replies, or at a write fault a prefix of them
 abbrev pub Writes : Option (List ℕ) → Option (List ℕ) → List ℕ → End → Type 0
 Writes out out' replies WriteFault = AppendsPrefix out out' replies
 Writes out out' replies end = Appends out out' replies
 
--- the number that the end tells
+-- the number that the end tells; a session that has the tree alone is never worn
 abbrev pub Tells : {E : Type 0} → TreeModel E → End → Type 0
 Tells new (Full n) = (length new.journal ≡ new.entries) × (n ≡ new.entries)
 Tells new (Long n) = n ≡ 2 ^ 40

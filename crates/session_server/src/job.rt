@@ -1,14 +1,18 @@
 //! The making ready of one request, as a job that any worker may run.
 
-ghost use Rattle.std.specs.Prelude.{◌≡◌, true, false, is_some};
+ghost use Rattle.std.specs.Prelude.{◌≡◌, true, false, is_some, IfOk, OnOk, IfErr};
 ghost use Rattle.state_tree.specs.Again.{is_bad};
 ghost use Rattle.state_tree.specs.Enters.{tree_of};
 ghost use Rattle.state_tree.specs.Prepared.{is_refused};
+ghost use Rattle.session_server.specs.Links.{IsLinked};
 ghost use Rattle.session_server.specs.Made.{IsLooked, Makes};
+ghost use Rattle.session_server.specs.Desks.{OthersComeTo, Went, Wore};
 
+use crate::desk::Desk;
 use repl_json::{Ask, Request};
-use state_tree::{Found, Ready, Tree, Work, make_ready, refuse_ready};
+use state_tree::{Found, Outcome, Ready, Work, make_ready, refuse_ready};
 use std::alloc::{AllocError, Global};
+use turn_lock::Worn;
 use worker_gate::Job;
 
 /// A request that was looked up and is to be made ready.
@@ -24,21 +28,34 @@ pub struct Prepare<'a, W: Work> {
 }
 
 /// Looks a request up.
-pub fn look_up<'a, W: Work>(
+pub fn look_up<
+    'a,
+    W: Work,
+    D: Desk<Env = W::Env, State = W::State, Ready = Ready<W>, Outcome = Outcome<W>>,
+>(
     alloc: Global,
     work: &'a W,
-    tree: &Tree<W>,
+    desk: &D,
+    place: &mut D::Place,
     request: Request,
-) -> Prepare<'a, W>
-    ensures request { result.request ≡ request }
-    ensures looked { IsLooked (tree_of W.value tree.now) result.request result.found }
+) -> Result<Prepare<'a, W>, Worn>
+    requires linked { IsLinked W.value (D.meaning desk.now) (D.finds desk.now) (D.fits desk.now) (D.enters desk.now) }
+    requires own { D.is_own desk.now place.old }
+    ensures own { D.is_own desk.now place.new }
+    ensures others { OthersComeTo (D.meaning desk.now) place.old place.new }
+    ensures went { OnOk result (Went (D.meaning desk.now) place.old place.new) }
+    ensures wore { IfErr result (λ worn. Wore (D.meaning desk.now) worn.turns place.old place.new) }
+    ensures request { IfOk result (λ job. job.request ≡ request) }
+    ensures looked { IfOk result (λ job. IsLooked (tree_of W.value ((D.meaning desk.now).view place.new)) job.request job.found) }
 {
-    let found = tree.look(&request).ok();
-    Prepare {
-        alloc,
-        work,
-        request,
-        found,
+    match desk.look(place, &request) {
+        Ok(found) => Ok(Prepare {
+            alloc,
+            work,
+            request,
+            found,
+        }),
+        Err(worn) => Err(worn),
     }
 }
 

@@ -5,13 +5,18 @@
 #![tactic(auto)]
 
 mod answer;
+mod desk;
 mod job;
 mod line;
 mod prepare;
 mod run;
+mod serving;
+mod session;
 #[cfg(test)]
 mod tests;
 mod worked_rows;
 mod workers;
 
-pub use run::{End, run_session};
+pub use run::End;
+pub use serving::serve_session;
+pub use session::run_session;

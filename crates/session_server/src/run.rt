@@ -3,18 +3,17 @@
 ghost use Rattle.std.specs.Prelude.{◌≡◌, ◌<◌, ◌≤◌, ◌^◌, List, ℕ, length, Option, ◌⊎◌, is_some};
 ghost use Rattle.pan_io.specs.Faults.{Rose};
 ghost use Rattle.state_tree.specs.TreeModel.{TreeModel};
-ghost use Rattle.state_tree.specs.declared.work.Entry.{Entry};
-ghost use Rattle.session_server.specs.Session.{Session};
-ghost use Rattle.session_server.specs.Entered.{Adds};
-ghost use Rattle.session_server.specs.MemoryLines.{ShowsMemory};
+ghost use Rattle.session_server.specs.Links.{IsLinked};
+ghost use Rattle.session_server.specs.PassSession.{Serves};
+ghost use Rattle.session_server.specs.Desks.{GoesStep, GoesTo};
 ghost use Rattle.session_server.specs.Progress.{Runs, Steps, step_of};
 
 use crate::answer::Halt;
+use crate::desk::Desk;
 use crate::line::{answer_line, answer_long};
 use crate::workers::Workers;
 use pan_io::{Lines, Sink, Source, Stop, Taken};
-use state_tree::{Tree, Work};
-use std::alloc::Global;
+use state_tree::{Outcome, Ready, Work};
 use std::thread::Threads;
 use worker_gate::Gate;
 
@@ -51,14 +50,23 @@ fn settle(answered: Result<(), Halt>) -> Step
         Ok(()) => Step::Next,
         Err(Halt::Write) => Step::Stop(End::WriteFault),
         Err(Halt::Full { entries }) => Step::Stop(End::Full { entries }),
+        Err(Halt::Worn { turns }) => Step::Stop(End::Worn { turns }),
         Err(Halt::Memory) => Step::Stop(End::Memory),
     }
 }
 
 /// Takes a line and answers it.
-fn answer_next<R: Threads + Sync, W: Work + Sync, S: Source, K: Sink, G: Gate>(
+fn answer_next<
+    R: Threads + Sync,
+    W: Work + Sync,
+    D: Desk<Env = W::Env, State = W::State, Ready = Ready<W>, Outcome = Outcome<W>>,
+    S: Source,
+    K: Sink,
+    G: Gate,
+>(
     workers: &Workers<'_, R, W, G>,
-    tree: &mut Tree<W>,
+    desk: &D,
+    place: &mut D::Place,
     lines: &mut Lines,
     source: &mut S,
     sink: &mut K,
@@ -66,9 +74,13 @@ fn answer_next<R: Threads + Sync, W: Work + Sync, S: Source, K: Sink, G: Gate>(
 where
     W::Env: Send,
     W::State: Send,
+    requires linked { IsLinked W.value (D.meaning desk.now) (D.finds desk.now) (D.fits desk.now) (D.enters desk.now) }
+    requires own { D.is_own desk.now place.old }
+    ensures own { D.is_own desk.now place.new }
+    ensures goes { GoesStep (D.meaning desk.now) place.old place.new result }
     ensures step { (start out : Option (List ℕ)) (first : TreeModel W.Env) →
-        Runs W.value start (S.left source.old) first tree.old out (K.taken sink.old) lines.old →
-        Steps W.value start (S.left source.new) first tree.new out (K.taken sink.new) lines.old lines.new result }
+        Runs W.value (D.meaning desk.now).alone (D.meaning desk.now).pass start (S.left source.old) first ((D.meaning desk.now).view place.old) out (K.taken sink.old) lines.old →
+        Steps W.value (D.meaning desk.now).alone (D.meaning desk.now).pass start (S.left source.new) first ((D.meaning desk.now).view place.new) out (K.taken sink.new) lines.old lines.new result }
     ensures most { lines.new.used ≤ 2 ^ 40 }
     ensures tells_in { is_some (S.left source.new) ≡ is_some (S.left source.old) }
     ensures tells_out { is_some (K.taken sink.new) ≡ is_some (K.taken sink.old) }
@@ -79,69 +91,52 @@ where
     ensures write { result ≡ Step.Stop End.WriteFault → Rose (K.faults sink.old) (K.faults sink.new) }
 {
     match lines.take(source) {
-        Taken::Line => settle(answer_line(workers, tree, lines.line(), sink)),
-        Taken::TooLong(len) => settle(answer_long(workers, tree, len, sink)),
+        Taken::Line => settle(answer_line(workers, desk, place, lines.line(), sink)),
+        Taken::TooLong(len) => settle(answer_long(workers, desk, place, len, sink)),
         Taken::End => Step::Stop(End::Done),
         Taken::ReadFault => Step::Stop(End::ReadFault),
         Taken::Long(bytes) => Step::Stop(End::Long { bytes }),
     }
 }
 
-/// Answers the requests of an input, as pass 0, until the input ends or the session can't go on.
-///
-/// The requests of a line are made ready by 1 to 64 workers, each on a thread of its own where one can be started. The gate is told of
-/// each under the number 0, by its position in its line, before its work is done.
-///
-/// The entries added are, in order and each once, requests of the input by the end: at `Done` all of them. What was written is the
-/// replies of the one-thread server to these entries, a line each, so that the memory lines in it tell which entries say `Memory`. The
-/// book and the number of entries stay.
-pub fn run_session<R: Threads + Sync, W: Work + Sync, S: Source, K: Sink, G: Gate>(
-    rt: &R,
-    alloc: Global,
-    work: &W,
-    tree: &mut Tree<W>,
-    workers: u32,
+/// Answers the requests of an input, until the input ends or the session can't go on.
+pub fn run<
+    R: Threads + Sync,
+    W: Work + Sync,
+    D: Desk<Env = W::Env, State = W::State, Ready = Ready<W>, Outcome = Outcome<W>>,
+    S: Source,
+    K: Sink,
+    G: Gate,
+>(
+    workers: &Workers<'_, R, W, G>,
+    desk: &D,
+    place: &mut D::Place,
     source: &mut S,
     sink: &mut K,
-    gate: &G,
 ) -> End
 where
     W::Env: Send,
     W::State: Send,
-    requires { (0 < workers) × (workers ≤ 64) }
-    // Which entries were added and what was written, by the end. It is never `Worn`.
-    ensures session { Session W.value (S.left source.old) (S.left source.new) tree.old tree.new (K.taken sink.old) (K.taken sink.new) result }
-    // Which of them say `Memory`: exactly those whose lines are memory lines.
-    ensures shown { (entries : List Entry) → Adds tree.old tree.new entries →
-        ShowsMemory (length tree.old.journal) entries (K.taken sink.old) (K.taken sink.new) result }
-    // The causes of faults.
+    requires linked { IsLinked W.value (D.meaning desk.now) (D.finds desk.now) (D.fits desk.now) (D.enters desk.now) }
+    requires own { D.is_own desk.now place.old }
+    ensures own { D.is_own desk.now place.new }
+    ensures goes { GoesTo (D.meaning desk.now) place.old place.new result }
+    ensures serves { Serves W.value (D.meaning desk.now).alone (D.meaning desk.now).pass (S.left source.old) (S.left source.new)
+        ((D.meaning desk.now).view place.old) ((D.meaning desk.now).view place.new) (K.taken sink.old) (K.taken sink.new) result }
     ensures read { result ≡ End.ReadFault → Rose (S.faults source.old) (S.faults source.new) }
     ensures write { result ≡ End.WriteFault → Rose (K.faults sink.old) (K.faults sink.new) }
-    // No call changes whether an end tells its bytes, and no count falls.
     ensures tells_in { is_some (S.left source.new) ≡ is_some (S.left source.old) }
     ensures tells_out { is_some (K.taken sink.new) ≡ is_some (K.taken sink.old) }
     ensures later_in { S.faults source.old ≤ S.faults source.new }
     ensures later_out { K.faults sink.old ≤ K.faults sink.new }
 {
-    // The length tells that the entries are a legal history.
-    let _length = tree.length();
-    let Ok(mut lines) = Lines::new(alloc) else {
+    let Ok(mut lines) = Lines::new(workers.alloc) else {
         return End::Memory;
     };
-    let workers = Workers {
-        rt,
-        alloc,
-        work,
-        count: workers,
-        gate,
-    };
     'lines: loop {
-        match answer_next(&workers, tree, &mut lines, source, sink) {
+        match answer_next(workers, desk, place, &mut lines, source, sink) {
             Step::Next => {}
-            Step::Stop(end) => {
-                let _length = tree.length();
-                return end;
-            }
+            Step::Stop(end) => return end,
         }
     }
 }

@@ -6,6 +6,7 @@ ghost use Rattle.state_tree.specs.Toy.{said_body};
 ghost use Rattle.state_tree.specs.ToyReplies.{said_is_reply};
 ghost use Rattle.state_tree.specs.Value.{Says};
 
+mod board;
 mod tries;
 
 use crate::{End, run_session};

@@ -1,9 +1,8 @@
-use Rattle.std.proofs.Common.{refl, []}
-use Rattle.session_server.proofs.AnswerLemmas.{one_cut, answered_none}
+use Rattle.session_server.proofs.AnswerLemmas.{one_cut, none_answered}
 use Rattle.session_server.proofs.answer.enter_ready.Goals as goal
 
-pub returns-in-Entered-clause-answers : goal.returns-in-Entered-clause-answers
-returns-in-Entered-clause-answers g c = one_cut g.W.Work.value _ _ c.args.ready c.in-Entered.line _ _ c.in-Entered.ensures c.in-Err.ensures.failed
+pub returns-in-Ok-clause-answers : goal.returns-in-Ok-clause-answers
+returns-in-Ok-clause-answers g c = one_cut g.W.Work.value (g.D.Desk.meaning c.args.desk.now).alone (g.D.Desk.meaning c.args.desk.now).pass _ _ c.args.ready.request c.in-Ok.line _ _ c.in-Ok.ensures.replied c.in-Err-send.ensures.failed
 
-pub returns-in-Full-clause-answers : goal.returns-in-Full-clause-answers
-returns-in-Full-clause-answers g c = rw c.in-Full.ensures.2 ([], c.args.ready.request, [], refl, answered_none g.W.Work.value _ _, c.in-Full.ensures.0, c.in-Full.ensures.1)
+pub returns-clause-answers : goal.returns-clause-answers
+returns-clause-answers g c = none_answered g.W.Work.value (g.D.Desk.meaning c.args.desk.now).alone (g.D.Desk.meaning c.args.desk.now).pass _ _ c.args.ready.request _ c.in-Err.halt c.in-Err.ensures.replied

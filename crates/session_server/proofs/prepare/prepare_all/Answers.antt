@@ -1,27 +1,18 @@
-use Rattle.std.proofs.Common.{◌≡◌, ◌∙◌, ap, sym, length, arith}
-use Rattle.std.proofs.lemmas.Result.{IfOk-weaker}
+use Rattle.std.proofs.Common.{◌≡◌, ◌∙◌, ℕ, subst, ap, sym, length, arith}
 use Rattle.std.proofs.lemmas.List.{length-map}
 use Rattle.state_tree.specs.Enters.{tree_of}
 use Rattle.session_server.proofs.MadeLemmas.{all_fit, same_requests}
 use Rattle.session_server.proofs.prepare.prepare_all.Goals as goal
 
-pub returns-clause-requests : goal.returns-clause-requests
-returns-clause-requests g c =
-    let jobs = c.in_ok-jobs.jobs.items in
-    IfOk-weaker c.all_made.result _ _ (λ v is.
-    same_requests g.W.Work.value (tree_of g.W.Work.value c.args.tree.now) (λ job. job.request) (λ job. job.found) jobs c.in_ok-made.made.items v.items is c.in_ok-made.ensures.results ∙ c.in_ok-jobs.ensures.requests)
-    c.all_made.ensures
+pub returns-in-Ok-make_all-clause-requests : goal.returns-in-Ok-make_all-clause-requests
+returns-in-Ok-make_all-clause-requests g c =
+    same_requests g.W.Work.value (λ job. job.request) (λ job. job.found) c.in-Ok.jobs.items c.in-Ok-make_all.readies.items c.in-Ok-make_all.ensures.made ∙ c.in-Ok.ensures.requests
 
-pub returns-clause-fit : goal.returns-clause-fit
-returns-clause-fit g c =
-    let jobs = c.in_ok-jobs.jobs.items in
-    IfOk-weaker c.all_made.result _ _ (λ v is.
-    all_fit g.W.Work.value (tree_of g.W.Work.value c.args.tree.now) (λ job. job.request) (λ job. job.found) jobs c.in_ok-made.made.items v.items is c.in_ok-jobs.ensures.looked c.in_ok-made.ensures.results)
-    c.all_made.ensures
+pub returns-in-Ok-make_all-clause-fit : goal.returns-in-Ok-make_all-clause-fit
+returns-in-Ok-make_all-clause-fit g c =
+    all_fit g.W.Work.value (tree_of g.W.Work.value ((g.D.Desk.meaning c.args.desk.now).view c.look_all.new.place)) (λ job. job.request) (λ job. job.found) c.in-Ok.jobs.items c.in-Ok-make_all.readies.items c.in-Ok.ensures.kept c.in-Ok-make_all.ensures.made
 
-pub returns-clause-told : goal.returns-clause-told
-returns-clause-told g c =
-    IfOk-weaker c.all_made.result _ _ (λ v is p within.
-    let many : length c.in_ok-jobs.jobs.items ≡ length c.args.requests.items = sym (length-map c.in_ok-jobs.jobs.items (λ job. job.request)) ∙ ap length c.in_ok-jobs.ensures.requests in
-    c.in_ok-made.ensures.told p (omega (arith, many, within, c.in_ok-jobs.jobs.ok.0, c.args.requests.ok.0)))
-    c.all_made.ensures
+pub returns-in-Ok-make_all-clause-told : goal.returns-in-Ok-make_all-clause-told
+returns-in-Ok-make_all-clause-told g c = λ p within.
+    let many : length c.in-Ok.jobs.items ≡ length c.args.requests.items = sym (length-map c.in-Ok.jobs.items (λ job. job.request)) ∙ ap length c.in-Ok.ensures.requests in
+    subst (λ (n : ℕ). g.G.Gate.told n p) c.number.ensures (c.in-Ok-make_all.ensures.told p (omega (arith, many, within, c.in-Ok.jobs.ok.0, c.args.requests.ok.0)))
