@@ -49,7 +49,7 @@ use Rattle.unification.proofs.Gives.{Gives, gives, given, gives_pure, gives_refu
 use Rattle.unification.proofs.Reach.{reach_is}
 use Rattle.unification.proofs.Declarations.{declares, extend_itself, extend_more, extend_length}
 use Rattle.unification.proofs.Sound.{settling_is_sound}
-use Rattle.unification.proofs.Footprint.{settling_has_footprint}
+use Rattle.unification.proofs.Footprint.{settling_stays}
 use Rattle.elaboration.specs.Elaboration.{Work, Made, Any, Of, started, standing, with_metas, with_goal, synth, check}
 use Rattle.elaboration.specs.Laws.{IsNew}
 use Rattle.elaboration.proofs.Renamed.{gives_renamed}
@@ -140,7 +140,7 @@ module _ (items : List (Item Term)) (base : Plain) (g : ℕ) (d : Decl Term) (th
           legal = s.0;
           extend = extend_more base w.metas after h.metas.extend s.1;
           others = λ k l no other.
-              settling_has_footprint Δ w.metas after g units left k d v h.metas.legal t.scoped.1 (goal_stays w h) e (let m = extend_length base w.metas h.metas.extend in omega arith) other (λ E. no (dependency_in items D w.metas h.metas.closed inside E))
+              settling_stays Δ w.metas after g units left k d v h.metas.legal (goal_stays w h) e (let m = extend_length base w.metas h.metas.extend in omega arith) other (λ E. no (dependency_in items D w.metas h.metas.closed inside E))
               ∙ h.metas.others k l no;
         },
         s.1,

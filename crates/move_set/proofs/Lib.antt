@@ -17,6 +17,7 @@ pub mod Tries
 pub mod AdvancingFurther
 pub mod Following
 pub mod States
+pub mod Independent
 pub mod OnGoals
 pub mod Worked
 pub mod WorkedTypes

@@ -1,5 +1,5 @@
 -- The laws of moves that this crate proves. Each holds for all states, texts and units.
-use Rattle.std.specs.Prelude.{◌≡◌, ◌<◌, ℕ, Bool, length, Some, slice_get}
+use Rattle.std.specs.Prelude.{◌≡◌, ◌≢◌, ◌<◌, ℕ, Bool, length, Some, None, slice_get}
 use Rattle.ld_trees.specs.Term.{Term, Meta, none, ◌▹◌}
 use Rattle.ld_rules.specs.Environment.{Env}
 use Rattle.ld_terms.specs.declared.globals.Decl.{Decl}
@@ -10,6 +10,7 @@ use Rattle.meta_context.specs.Plain.{rules_ctx}
 use Rattle.meta_laws.specs.Unfolding.{unfold_metas, unfold_all_metas}
 use Rattle.goal_state.specs.State.{State, IsLegalState, rules_metas}
 use Rattle.goal_state.specs.Following.{Extend}
+use Rattle.coupling.specs.Coupling.{AreCoupled, IsIndependent}
 use Rattle.unification.specs.Steps.{Gave}
 use Rattle.unification.specs.Refusals.{Plain}
 use Rattle.unification.specs.Laws.{FuelLaw, Stays}
@@ -60,3 +61,13 @@ pub record LooksTheSame (metas after : Plain) (h : ℕ) (d : Decl Term) : Type 0
 abbrev pub IndependentGoalsStay : Type 0
 IndependentGoalsStay = (s s' : State) (index g h : ℕ) (d : Decl Term) (text : Text) (units left : ℕ) (auto : Bool) → IsLegalState s → slice_get s.goals index ≡ Some g → moved s index text units auto ≡ Gave s' left
     → slice_get s.metas h ≡ Some d → ((k : ℕ) → IsNeeded s.metas g k → IsNeeded s.metas h k → ⊥) → LooksTheSame s.metas s'.metas h d
+
+-- a move on a goal leaves every other open goal as it was that is not coupled with the first one
+abbrev pub UncoupledGoalsStay : Type 0
+UncoupledGoalsStay = (s s' : State) (index g h : ℕ) (d : Decl Term) (text : Text) (units left : ℕ) (auto : Bool) → IsLegalState s → slice_get s.goals index ≡ Some g → moved s index text units auto ≡ Gave s' left
+    → slice_get s.metas h ≡ Some d → d.value ≡ None → g ≢ h → (AreCoupled s.metas g h → ⊥) → LooksTheSame s.metas s'.metas h d
+
+-- a move on an independent goal leaves every other open goal as it was
+abbrev pub OtherGoalsStay : Type 0
+OtherGoalsStay = (s s' : State) (index g h : ℕ) (d : Decl Term) (text : Text) (units left : ℕ) (auto : Bool) → IsLegalState s → slice_get s.goals index ≡ Some g → moved s index text units auto ≡ Gave s' left
+    → IsIndependent s.metas g → slice_get s.metas h ≡ Some d → d.value ≡ None → g ≢ h → LooksTheSame s.metas s'.metas h d

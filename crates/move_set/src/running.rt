@@ -1,6 +1,6 @@
 //! A move on a goal of a state.
 
-ghost use Rattle.std.specs.Prelude.{◌≡◌, ◌<◌, All, IfErr, IfOk, MatchResult, Some, None, ℕ, List as Listed, length, slice_get};
+ghost use Rattle.std.specs.Prelude.{◌≡◌, ◌≢◌, ◌<◌, All, IfErr, IfOk, MatchResult, Some, None, ℕ, List as Listed, length, slice_get};
 ghost use Rattle.ld_trees.specs.Term.{Term};
 ghost use Rattle.ld_terms.specs.Views.{Keeps};
 ghost use Rattle.ld_terms.specs.declared.globals.Decl.{Decl};
@@ -10,8 +10,9 @@ ghost use Rattle.meta_context.specs.Declaring.{IsOpen};
 ghost use Rattle.meta_context.specs.Plain.{plain_items, rules_env};
 ghost use Rattle.meta_laws.specs.Legality.{IsLegalMetas};
 ghost use Rattle.goal_state.specs.State.{State, plain_metas, rules_metas};
+ghost use Rattle.coupling.specs.Coupling.{AreCoupled};
 ghost use Rattle.unification.specs.Laws.{Stays};
-ghost use Rattle.move_set.specs.Laws.{IsNeeded};
+ghost use Rattle.move_set.specs.Laws.{IsNeeded, LooksTheSame};
 ghost use Rattle.goal_state.specs.StoredState.{plain_state};
 ghost use Rattle.goal_state.specs.Following.{Extend, MayFollow};
 ghost use Rattle.move_text.specs.Named.{HasTextName};
@@ -230,6 +231,8 @@ pub fn run_move<T: Terms + Drop>(
     ensures kept { IfOk result (λ s. Extend (plain_state T.means state.now).metas (plain_state T.means s).metas) }
     // Of the state's metavariables only open ones among the goal and its dependencies are assigned.
     ensures assigns { IfOk result (λ s. (g k : ℕ) → slice_get state.now.goals goal ≡ Some g → k < length state.now.metas → (IsNeeded (plain_state T.means state.now).metas g k → ⊥) → Stays (plain_state T.means state.now).metas (plain_state T.means s).metas k) }
+    // Each other open goal that is not coupled with the goal has the context and the type that it had, also with assigned metavariables unfolded.
+    ensures independent { IfOk result (λ s. (g h : ℕ) (d : Decl Term) → slice_get state.now.goals goal ≡ Some g → slice_get (plain_state T.means state.now).metas h ≡ Some d → d.value ≡ None → g ≢ h → (AreCoupled (plain_state T.means state.now).metas g h → ⊥) → LooksTheSame (plain_state T.means state.now).metas (plain_state T.means s).metas h d) }
 {
     // The store tells that the state is legal.
     let _terms = state.terms();

@@ -1,7 +1,7 @@
 -- What an answer of unification or settling means, by the laws.
 use Rattle.std.proofs.Common.{◌≡◌, ℕ, List, Some, Result, Ok, Err}
 use Rattle.std.specs.Prelude.{IfOk, slice_get}
-use Rattle.ld_trees.specs.Term.{Term, none, ◌▹◌}
+use Rattle.ld_trees.specs.Term.{Term, Meta, none, ◌▹◌}
 use Rattle.ld_rules.specs.Environment.{Env}
 use Rattle.ld_rules.specs.Scoping.{Known}
 use Rattle.ld_terms.specs.declared.globals.Decl.{Decl}
@@ -12,7 +12,7 @@ use Rattle.unification.specs.Refusals.{Plain}
 use Rattle.unification.specs.Metavariables.{reach}
 use Rattle.unification.specs.Unification.{unify, settle}
 use Rattle.unification.proofs.Sound.{unifying_is_sound, settling_is_sound}
-use Rattle.unification.proofs.Footprint.{unifying_has_footprint}
+use Rattle.unification.proofs.Footprint.{unifying_has_footprint, settling_has_footprint}
 use Rattle.pattern_unify.specs.declared.fault.UnifyFault.{UnifyFault}
 use Rattle.pattern_unify.specs.Answers.{Answers, AreUnified, AreSettled}
 
@@ -30,3 +30,7 @@ module _ {H : Type 0} (holds : H → Type 0) (means : H → Term) (Δ : Env) (Σ
       → IfOk r (λ x. AreSettled Δ Σ (plain_metas means x) m d v)
   settled m d v k e (Ok x) h = let s = settling_is_sound Δ Σ (plain_metas means x) m n left d v legal k e h in record { legal = s.0; extend = s.1; given = s.2 }
   settled m d v k e (Err f) h = tt
+
+  pub settled_footprint : (m : ℕ) (v : Term) (r : Result (List (Decl H)) (UnifyFault H)) → Answers holds means (plain_metas means) (settle Δ Σ m v n) left r → IfOk r (λ x. HasFootprint Σ (plain_metas means x) (none ▹ Meta m none ▹ v))
+  settled_footprint m v (Ok x) h = settling_has_footprint Δ Σ (plain_metas means x) m n left v legal h
+  settled_footprint m v (Err f) h = tt

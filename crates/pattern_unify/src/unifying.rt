@@ -1,7 +1,7 @@
 //! Unification of two terms, and settling a metavariable by a value.
 
 ghost use Rattle.std.specs.Prelude.{◌≡◌, ◌≤◌, All, IfOk, Some, List as Listed, slice_get};
-ghost use Rattle.ld_trees.specs.Term.{Term, none, ◌▹◌};
+ghost use Rattle.ld_trees.specs.Term.{Term, Meta, none, ◌▹◌};
 ghost use Rattle.ld_rules.specs.Scoping.{Known};
 ghost use Rattle.ld_terms.specs.Views.{Keeps};
 ghost use Rattle.ld_terms.specs.declared.globals.Decl.{Decl};
@@ -77,6 +77,8 @@ pub fn settle<T: Terms>(
     ensures value { (Δ : Listed (Item Term)) (Σ : Listed (Decl Term)) (v : Term) → AreRead (T.means terms.old) env.now metas.now Δ Σ → T.means terms.old value ≡ v → Answers (T.holds terms.new) (T.means terms.new) (plain_metas (T.means terms.new)) (unification.settle (rules_env Δ) Σ m v fuel.old) fuel.new result }
     // From legal metavariables they are legal, and the metavariable has the value in them.
     ensures settled { (Δ : Listed (Item Term)) (Σ : Listed (Decl Term)) (d : Decl Term) (v : Term) → AreRead (T.means terms.old) env.now metas.now Δ Σ → T.means terms.old value ≡ v → slice_get Σ m ≡ Some d → IsLegalMetas (rules_env Δ) (rules_metas Σ) → Known (spec.reach (rules_env Δ) Σ) v → IfOk result (λ r. AreSettled (rules_env Δ) Σ (plain_metas (T.means terms.new) r) m d v) }
+    // Only dependencies of the metavariable and of the value are assigned, and what is declared lies over entries of their contexts.
+    ensures footprint { (Δ : Listed (Item Term)) (Σ : Listed (Decl Term)) (v : Term) → AreRead (T.means terms.old) env.now metas.now Δ Σ → T.means terms.old value ≡ v → IsLegalMetas (rules_env Δ) (rules_metas Σ) → IfOk result (λ r. HasFootprint Σ (plain_metas (T.means terms.new) r) (none ▹ Meta m none ▹ v)) }
     ensures held { IfOk result (λ r. All (IsDeclOf (T.holds terms.new)) r) }
     ensures less { fuel.new ≤ fuel.old }
     ensures kept { Keeps (T.holds terms.old) (T.means terms.old) (T.holds terms.new) (T.means terms.new) }

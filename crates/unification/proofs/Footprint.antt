@@ -1,16 +1,21 @@
 -- Unifying and settling change only what they may.
-use Rattle.std.proofs.Common.{◌≡◌, ℕ, ◌<◌, ◌⊎◌, inl, inr, true, false, ◌||◌, Some, None, option_map, length, nat_eq, sym, ap, ◌∙◌, arith, subst as transport}
+use Rattle.std.proofs.Common.{◌≡◌, ℕ, ◌<◌, ◌⊎◌, inl, inr, true, false, ◌||◌, Option, Some, None, option_map, length, nat_eq, refl, sym, ap, ◌∙◌, arith, subst as transport}
 use Rattle.std.specs.Prelude.{slice_get}
 use Rattle.std.proofs.lemmas.Bool.{eqb-true}
 use Rattle.std.proofs.lemmas.Option.{same_Some}
 use Rattle.ld_trees.specs.Term.{Term, Terms, Meta, none, ◌▹◌}
+use Rattle.ld_rules.specs.Environment.{Env}
 use Rattle.ld_terms.specs.declared.globals.Decl.{Decl}
 use Rattle.meta_trees.specs.MetaContext.{decl}
 use Rattle.meta_trees.specs.Dependencies.{Depends, direct, through, occurs, occurs_in, and_value, parts}
 use Rattle.meta_trees.proofs.Dependencies.{or_split, or_left, or_right}
+use Rattle.meta_laws.specs.Legality.{IsLegalMetas}
 use Rattle.goal_state.specs.State.{rules_metas}
 use Rattle.goal_state.specs.Following.{Extend}
+use Rattle.unification.specs.Steps.{Gave}
 use Rattle.unification.specs.Refusals.{Plain}
+use Rattle.unification.specs.Metavariables.{settled_by}
+use Rattle.unification.specs.Unification.{unify, settle}
 use Rattle.unification.specs.Laws.{declared_terms, Stays, HasFootprint, UnifyingHasFootprint, SettlingHasFootprint}
 use Rattle.unification.proofs.Declarations.{plain, declares, same_decl}
 use Rattle.unification.proofs.Moved.{Moved}
@@ -29,6 +34,15 @@ footprint S Z X x m = record { others = stays_apart S Z X m; values = value_stay
 
 pub unifying_has_footprint : UnifyingHasFootprint
 unifying_has_footprint Δ S Z d n left a b ok h k e = let j = unified Δ S Z d n left a b ok h k e in footprint S Z (none ▹ a ▹ b) j.extend j.moved
+
+pub settling_has_footprint : SettlingHasFootprint
+settling_has_footprint Δ S Z m n left v ok e = go (slice_get S m) refl
+  where
+    go : (o : Option (Decl Term)) → slice_get S m ≡ o → HasFootprint S Z (none ▹ Meta m none ▹ v)
+    go None q = absurd (let r = transport (λ o. settled_by Δ (unify Δ) S m v o n ≡ Gave Z left) q e in cc)
+    go (Some d) q = let w = settled Δ S Z m n left d v ok q e in footprint S Z (none ▹ Meta m none ▹ v) w.extend w.moved
+
+-- ---- the same by the declaration of the metavariable
 
 -- what depends on the metavariable or the value is the metavariable, or what the value and its declaration depend on
 module _ (S : Plain) (m : ℕ) (d : Decl Term) (v : Term) (there : slice_get S m ≡ Some d) (open_yet : d.value ≡ None) where
@@ -49,7 +63,9 @@ module _ (S : Plain) (m : ℕ) (d : Decl Term) (v : Term) (there : slice_get S m
       go (inl q) = inr (direct (or_left (occurs_in k (declared_terms d)) _ (own q)))
       go (inr E) = inr (through e E p w)
 
-pub settling_has_footprint : SettlingHasFootprint
-settling_has_footprint Δ S Z m n left k d v ok h there e l other apart =
+-- beside the metavariable, what neither its declaration nor the value depends on stays
+pub settling_stays : (Δ : Env) (metas after : Plain) (m n left k : ℕ) (d : Decl Term) (v : Term) → IsLegalMetas Δ (rules_metas metas) → slice_get metas m ≡ Some d → settle Δ metas m v n ≡ Gave after left
+    → k < length metas → (k ≡ m → ⊥) → (Depends (rules_metas metas) (declared_terms d ▹ v) k → ⊥) → Stays metas after k
+settling_stays Δ S Z m n left k d v ok there e l other apart =
     let w = settled Δ S Z m n left d v ok there e in
-    stays_apart S Z (none ▹ Meta m none ▹ v) w.moved k l (λ D. elim (of_both S m d v there w.before D) [ inl q ↦ other q | inr E ↦ apart E ])
+    (settling_has_footprint Δ S Z m n left v ok e).others k l (λ D. elim (of_both S m d v there w.before D) [ inl q ↦ other q | inr E ↦ apart E ])

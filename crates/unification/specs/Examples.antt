@@ -1,6 +1,6 @@
 -- A book, metavariables over it and their values, for worked examples of unification.
 use Rattle.std.specs.Prelude.{ℕ, List, [], ◌∷◌, codes, Some, None}
-use Rattle.ld_trees.specs.Term.{Named, Term, Star, Var, Lam, Pi, Const, Meta, Terms, none, ◌▹◌}
+use Rattle.ld_trees.specs.Term.{Named, Term, Star, Var, App, Lam, Pi, Const, Meta, Terms, none, ◌▹◌}
 use Rattle.ld_rules.specs.Environment.{Env, Item}
 use Rattle.ld_terms.specs.declared.globals.Local.{Local}
 use Rattle.ld_terms.specs.declared.globals.Decl.{Decl}
@@ -92,6 +92,10 @@ equal_to i = Lam N (eq (Var 0) (Var i))
 abbrev pub function : Plain
 function = goal [] (Pi N N) ∷ []
 
+-- ?0 : N() -> * over the empty context
+abbrev pub predicate : Plain
+predicate = goal [] (Pi N Star) ∷ []
+
 -- ?0 : N() and ?1 : K(?0[]), so that a value of ?0 that holds ?1 depends on ?0
 abbrev pub typed_by : Plain
 typed_by = goal [] N ∷ goal [] (K (bare 0)) ∷ []
@@ -115,6 +119,24 @@ two_entries = goal w_alone N ∷ goal x_and_level N ∷ []
 -- the entry that is kept has the name of its new level
 abbrev pub one_kept : Plain
 one_kept = solved w_alone N (s (at 2 (Var 0))) ∷ solved x_and_level N (at 2 (Var 0)) ∷ goal (entry (codes "%0") N ∷ []) N ∷ []
+
+-- ?0 : N() over q : eq(z(), z()), and ?1 : N() over x : N() and an entry p : eq(x, x), whose type holds x
+abbrev pub q_alone : List (Local Term)
+q_alone = entry (codes "q") (eq z z) ∷ []
+
+abbrev pub x_and_p : List (Local Term)
+x_and_p = entry (codes "x") N ∷ entry (codes "p") (eq (Var 0) (Var 0)) ∷ []
+
+abbrev pub entry_holds_x : Plain
+entry_holds_x = goal q_alone N ∷ goal x_and_p N ∷ []
+
+-- under q and y : N(), the argument (fun (n : N()) => z()) y, which is z(), so that q is an argument for p
+abbrev pub z_at_y : Term
+z_at_y = App (Lam N z) (Var 0)
+
+-- without x there is no p: ?1 is a new ?2 : N() over the empty context
+abbrev pub neither_kept : Plain
+neither_kept = solved q_alone N (s (bare 2)) ∷ solved x_and_p N (bare 2) ∷ goal [] N ∷ []
 
 -- a proof of N() after `refine all(?, ?)` and `intro x`, and with a `_` over x : N() for `exact refl(s(_))`
 abbrev pub before : Plain

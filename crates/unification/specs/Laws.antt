@@ -1,6 +1,6 @@
 -- The laws of unification that this crate proves. Each holds for all environments, metavariables, terms and units.
 use Rattle.std.specs.Prelude.{◌≡◌, ◌⊎◌, ℕ, ◌-◌, ◌<◌, ◌≤◌, List, Bool, true, length, slice_get, Some, []}
-use Rattle.ld_trees.specs.Term.{Term, Terms, none, ◌▹◌}
+use Rattle.ld_trees.specs.Term.{Term, Terms, Meta, none, ◌▹◌}
 use Rattle.ld_rules.specs.Environment.{Env}
 use Rattle.ld_rules.specs.Reduction.{Equal}
 use Rattle.ld_rules.specs.Scoping.{Known}
@@ -59,7 +59,7 @@ SettlingIsSound = (Δ : Env) (metas after : Plain) (m n left : ℕ) (d : Decl Te
 
 -- ---- what a unification may change
 
--- the terms of a metavariable's declaration that settling it looks at
+-- the terms of a metavariable's declaration
 abbrev pub declared_terms : Decl Term → Terms
 declared_terms d = rules_ctx d.ctx ▹ d.ty
 
@@ -87,7 +87,6 @@ pub record HasFootprint (metas after : Plain) (X : Terms) : Type 0 where
 abbrev pub UnifyingHasFootprint : Type 0
 UnifyingHasFootprint = (Δ : Env) (metas after : Plain) (d n left : ℕ) (a b : Term) → IsLegalMetas Δ (rules_metas metas) → Known (reach Δ metas) a → Known (reach Δ metas) b → unify Δ metas d a b n ≡ Gave after left → HasFootprint metas after (none ▹ a ▹ b)
 
--- settling looks at the value and at the declaration of the metavariable, which gets the value itself
+-- What settling may change is what the metavariable and the value depend on; the metavariable itself, which gets the value, is among it.
 abbrev pub SettlingHasFootprint : Type 0
-SettlingHasFootprint = (Δ : Env) (metas after : Plain) (m n left k : ℕ) (d : Decl Term) (v : Term) → IsLegalMetas Δ (rules_metas metas) → Known (reach Δ metas) v → slice_get metas m ≡ Some d → settle Δ metas m v n ≡ Gave after left
-    → k < length metas → (k ≡ m → ⊥) → (Depends (rules_metas metas) (declared_terms d ▹ v) k → ⊥) → Stays metas after k
+SettlingHasFootprint = (Δ : Env) (metas after : Plain) (m n left : ℕ) (v : Term) → IsLegalMetas Δ (rules_metas metas) → settle Δ metas m v n ≡ Gave after left → HasFootprint metas after (none ▹ Meta m none ▹ v)

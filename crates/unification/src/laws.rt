@@ -25,7 +25,8 @@ pub fn unifying_has_footprint()
     ensures { UnifyingHasFootprint }
 {}
 
-/// Settling assigns, beside its metavariable, only such that the value or the metavariable's declaration depends on.
+/// Settling assigns only metavariables without a value that its metavariable or the value depends on, the metavariable itself among them.
+/// What it declares lies over entries of their contexts, and what it declares or assigns speaks of such and of new metavariables alone.
 #[tactic(auto, using(crate::proofs::Footprint::settling_has_footprint))]
 pub fn settling_has_footprint()
     ensures { SettlingHasFootprint }
