@@ -29,6 +29,7 @@ impl Model for Chunk {
 }
 
 impl Chunk {
+    /// An empty chunk of 8,192 bytes. The error is want of memory.
     pub fn new(alloc: Global) -> Result<Chunk, AllocError>
         ensures { IfOk result (λ chunk. chunk ≡ []) }
     {
@@ -40,12 +41,14 @@ impl Chunk {
         })
     }
 
+    /// Whether no byte waits in it.
     pub fn is_empty(&self) -> bool
         ensures { result ≡ (length self.now == 0) }
     {
         self.from == self.till
     }
 
+    /// The bytes that were read and not yet taken.
     pub fn waiting(&self) -> &[u8]
         ensures { result.now ≡ self.now }
     {

@@ -31,6 +31,7 @@ impl Model for Draft {
 }
 
 impl Draft {
+    /// The draft of a line of which no byte has come. The error is want of memory.
     pub fn new(alloc: Global) -> Result<Draft, AllocError>
         ensures { IfOk result (λ draft. Holds draft []) }
     {
@@ -42,6 +43,7 @@ impl Draft {
         })
     }
 
+    /// Begins the next line.
     pub fn clear(&mut self)
         ensures { Holds self.new [] }
     {
@@ -76,6 +78,7 @@ impl Draft {
         }
     }
 
+    /// Whether no byte of the line has come.
     pub fn is_empty(&self) -> bool
         ensures { result ≡ (self.now.count == 0) }
     {

@@ -14,6 +14,7 @@ pub struct FaultCount {
 impl FaultCount {
     ghost use Rattle.pan_io.specs.Faults.{Rose};
 
+    /// No fault so far.
     pub fn new() -> FaultCount
         ensures { result.count ≡ 0 }
     {

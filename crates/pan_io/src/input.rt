@@ -47,6 +47,7 @@ impl Model for Input {
 impl Input {
     ghost use Rattle.pan_io.specs.Waiting.{IsReady};
 
+    /// An input of which nothing was read. The error is want of memory.
     pub fn new(alloc: Global) -> Result<Input, AllocError>
         ensures { IfOk result (λ input. (input.pending ≡ []) × (input.used ≡ 0)) }
     {

@@ -21,6 +21,7 @@ pub struct MemoryLink {
 }
 
 impl MemoryLink {
+    /// A link of these two ends, which had no fault yet and took nothing.
     pub fn new(input: MemorySource, output: MemorySink) -> MemoryLink
         requires no_input_fault { input.faults.count ≡ 0 }
         requires no_output_fault { output.faults.count ≡ 0 }

@@ -28,6 +28,7 @@ impl Model for Book {
 impl Book {
     ghost use Rattle.std.specs.String.{string_bytes};
 
+    /// A book of these bytes, under that name.
     pub fn new(name: String, bytes: Vec<u8>) -> Book
         ensures name { result.name ≡ string_bytes name }
         ensures bytes { result.bytes ≡ bytes.items }

@@ -17,6 +17,7 @@ pub struct StdIn {
 }
 
 impl StdIn {
+    /// The source of what standard input gives.
     pub fn new(stream: Stdin) -> StdIn
         ensures { result.faults.count ≡ 0 }
     {
@@ -85,6 +86,7 @@ pub struct StdErr {
 }
 
 impl StdErr {
+    /// The sink that writes to standard error.
     pub fn new(stream: Stderr) -> StdErr
         ensures { result.faults.count ≡ 0 }
     {

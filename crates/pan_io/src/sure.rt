@@ -16,6 +16,7 @@ pub struct SureSource {
 }
 
 impl SureSource {
+    /// A source that tells these bytes from the first on.
     pub fn new(bytes: Vec<u8>) -> SureSource
         ensures bytes { result.bytes ≡ bytes }
         ensures at { result.at ≡ 0 }

@@ -1,5 +1,5 @@
 -- Answers that follow one another.
-use Rattle.std.proofs.Common.{◌≡◌, ℕ, ◌≤◌, inl, inr, arith, Bool, List, [], ◌∷◌, ◌++◌, Option, Result, Ok, Err, refl, sym, ◌∙◌, ap, append_assoc, append-nil, subst}
+use Rattle.std.proofs.Common.{◌≡◌, ℕ, ◌≤◌, inl, inr, arith, Bool, List, [], ◌∷◌, ◌++◌, Option, Result, Ok, Err, refl, sym, ◌∙◌, ap, append_assoc, subst}
 use Rattle.std.proofs.lemmas.List.{map-append}
 use Rattle.std.proofs.KnownBytes.{Appends-trans, Appends-nil}
 use Rattle.std.specs.Io.KnownBytes.{Appends}
@@ -15,7 +15,7 @@ use Rattle.state_tree.specs.Value.{Value}
 use Rattle.state_tree.specs.TreeModel.{TreeModel}
 use Rattle.state_tree.specs.Enters.{tree_of}
 use Rattle.session_server.specs.Entered.{requests_in}
-use Rattle.session_server.specs.Own.{own, own_output}
+use Rattle.session_server.specs.Own.{own}
 use Rattle.session_server.specs.Sees.{OthersCome, EntersOne}
 use Rattle.session_server.specs.Answers.{Answered, Cut, Answers, AnswersLine, IsReplied}
 use Rattle.session_server.specs.Desks.{StopsLooking}

@@ -1,7 +1,6 @@
 -- The calls of a board, in the words of a desk.
-use Rattle.std.proofs.Common.{◌≡◌, ℕ, ◌<◌, ◌≤◌, Bool, true, false, cond, append-nil, List, [], ◌∷◌, ◌++◌, length, refl, sym, ◌∙◌, ap, subst, arith, ◌⊎◌, inl, inr, All, Contains, zero}
+use Rattle.std.proofs.Common.{◌≡◌, ℕ, Bool, true, false, cond, append-nil, List, [], ◌∷◌, refl, sym, ◌∙◌, ap, subst, arith, All, Contains, zero}
 use Rattle.std.proofs.lemmas.List.Elements.{All-head, All-tail}
-use Rattle.turn_lock.specs.Meanings.{MAX_TURNS}
 use Rattle.turn_lock.specs.Journals.{IsByOthers}
 use Rattle.repl_json.specs.declared.request.Ask.{Ask}
 use Rattle.state_tree.specs.declared.tree.Outcome.{Outcome}
@@ -10,7 +9,6 @@ use Rattle.state_tree.specs.declared.work.Entry.{Entry}
 use Rattle.state_tree.specs.Value.{Value}
 use Rattle.state_tree.specs.Prepared.{Prepared}
 use Rattle.state_tree.specs.Enters.{Enters}
-use Rattle.state_tree.specs.TreeModel.{TreeModel}
 use Rattle.shared_board.specs.declared.board_tree.TreeGround.{TreeGround}
 use Rattle.shared_board.specs.Boards.{BoardPassMeaning, pass_of}
 use Rattle.shared_board.specs.Calls.{GoesOnFrom, OnlySeesMore, IsInTime, IsWorn, EntersAfter, tree_with}
@@ -27,7 +25,7 @@ not_taken true x xs never = absurd (never refl)
 not_taken false x xs never = refl
 
 -- entries that carry none of a pass's numbers aren't its own
-none_own : (number : ℕ) (took : List ℕ) (more : List Entry) → All (IsByOthers pass_of (number ∷ took)) more → own number more ≡ []
+pub none_own : (number : ℕ) (took : List ℕ) (more : List Entry) → All (IsByOthers pass_of (number ∷ took)) more → own number more ≡ []
 none_own number took [] all = refl
 none_own number took (e ∷ more) all =
     let other = All-head (IsByOthers pass_of (number ∷ took)) e more all in

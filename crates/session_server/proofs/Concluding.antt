@@ -1,19 +1,18 @@
 -- What a session over a desk is to the callers of a tree, and to those of a board.
-use Rattle.std.proofs.Common.{◌≡◌, ◌<◌, ◌≤◌, ℕ, true, List, [], ◌++◌, Option, IfSome, refl, sym, ◌∙◌, ap, subst, arith}
+use Rattle.std.proofs.Common.{◌≡◌, ◌≤◌, ℕ, true, List, [], Option, IfSome, refl, sym, ap, subst, arith}
 use Rattle.repl_json.specs.declared.request.Ask.{Ask}
 use Rattle.state_tree.specs.declared.work.Found.{Found}
 use Rattle.state_tree.specs.declared.work.Entry.{Entry}
 use Rattle.state_tree.specs.Value.{Value}
 use Rattle.state_tree.specs.TreeModel.{TreeModel}
 use Rattle.state_tree.specs.Enters.{tree_of}
-use Rattle.turn_lock.specs.Meanings.{MAX_TURNS}
 use Rattle.shared_board.specs.declared.board_tree.TreeGround.{TreeGround}
 use Rattle.shared_board.specs.Boards.{BoardPassMeaning}
 use Rattle.shared_board.specs.Calls.{OnlySeesMore, tree_with}
-use Rattle.session_server.specs.Entered.{requests_in, with_entries, Adds}
+use Rattle.session_server.specs.Entered.{requests_in, with_entries}
 use Rattle.session_server.specs.Session.{Session, EntersOf, Writes, Tells}
 use Rattle.session_server.specs.PassSession.{Serves, Reaches}
-use Rattle.session_server.specs.Desks.{DeskMeaning, Went, Wore, GoesTo, tree_desk, board_desk}
+use Rattle.session_server.specs.Desks.{GoesTo, tree_desk, board_desk}
 use Rattle.session_server.specs.Turns.{TurnsBy}
 use Rattle.session_server.specs.declared.run.End.{End}
 use Rattle.session_server.specs.declared.run.End.TheVariants as ending

@@ -1,5 +1,5 @@
 -- Prepared requests that may be entered.
-use Rattle.std.proofs.Common.{◌≡◌, ℕ, Bool, true, false, cond, List, [], ◌∷◌, Option, None, Some, IfSome, refl, sym, ◌∙◌, ap, subst}
+use Rattle.std.proofs.Common.{◌≡◌, ℕ, Bool, true, false, cond, List, [], ◌∷◌, Option, None, Some, IfSome, refl, sym, subst}
 use Rattle.std.specs.List.{AllByRecursion}
 use Rattle.repl_json.specs.declared.request.Ask.{Ask}
 use Rattle.repl_json.specs.declared.request.Request.{Request}

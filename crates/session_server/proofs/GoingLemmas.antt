@@ -1,5 +1,5 @@
 -- Turns, one call after another.
-use Rattle.std.proofs.Common.{◌≡◌, ◌<◌, ◌≤◌, ℕ, ◌⊎◌, inl, inr, Result, Ok, Err, refl, sym, ◌∙◌, ap, subst, arith}
+use Rattle.std.proofs.Common.{◌≡◌, ◌<◌, ℕ, ◌⊎◌, inl, inr, Result, Ok, Err, refl, sym, ◌∙◌, subst, arith}
 use Rattle.turn_lock.specs.Meanings.{MAX_TURNS}
 use Rattle.session_server.specs.Desks.{DeskMeaning, Went, Wore, GoesHalting, GoesBy, GoesTo, GoesStep}
 use Rattle.session_server.specs.Progress.{step_of}

@@ -9,7 +9,7 @@ use Rattle.state_tree.specs.declared.work.Found.{Found}
 use Rattle.state_tree.specs.Value.{Value}
 use Rattle.state_tree.specs.Server.{PlainTree, found_in}
 use Rattle.state_tree.specs.Again.{is_bad}
-use Rattle.state_tree.specs.Prepared.{Prepared, is_refused, nothing}
+use Rattle.state_tree.specs.Prepared.{Prepared}
 use Rattle.state_tree.specs.TreeModel.{Holds}
 use Rattle.state_tree.proofs.Looks.{holds_found, holds_nothing}
 use Rattle.session_server.specs.Answers.{IsFit, AreFit, requests_in_readies}

@@ -5,14 +5,13 @@ use Rattle.std.proofs.lemmas.List.Splits.{slice_split-cons_yes, slice_split-cons
 use Rattle.std.specs.List.{onto_first}
 use Rattle.std.specs.Io.KnownBytes.{Appends}
 use Rattle.pan_io.specs.Text.{is_line_end, parts}
-use Rattle.repl_json.specs.Reply.{text}
 use Rattle.repl_json.specs.OneLine.{is_unbroken, memory_line}
 use Rattle.repl_json.specs.declared.request.Ask.{Ask}
 use Rattle.state_tree.specs.declared.work.Found.{Found}
 use Rattle.state_tree.specs.declared.work.Entry.{Entry}
 use Rattle.state_tree.specs.declared.work.Gave.TheVariants.{Memory}
 use Rattle.state_tree.specs.Value.{Value}
-use Rattle.state_tree.specs.Server.{PlainTree, seq_of, reply, step, after_all, MayAll, opening, replay, IsLegal}
+use Rattle.state_tree.specs.Server.{PlainTree, seq_of, step, after_all, MayAll, opening, replay, IsLegal}
 use Rattle.state_tree.specs.Replies.{IsShown, RepliesAreShown}
 use Rattle.state_tree.specs.TreeModel.{TreeModel}
 use Rattle.state_tree.specs.Enters.{tree_of}

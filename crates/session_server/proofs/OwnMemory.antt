@@ -15,7 +15,6 @@ use Rattle.state_tree.specs.Server.{PlainTree, seq_of, reply, step, MayAll, MayS
 use Rattle.state_tree.specs.Replies.{IsShown, RepliesAreShown}
 use Rattle.state_tree.specs.TreeModel.{TreeModel}
 use Rattle.state_tree.specs.Enters.{tree_of}
-use Rattle.session_server.specs.Entered.{with_entries}
 use Rattle.session_server.specs.Own.{is_own, own, numbered, own_replies, own_output}
 use Rattle.session_server.specs.PassSession.{PassSession}
 use Rattle.session_server.specs.MemoryLines.{MarksOwn, ShowsOwnMemory}

@@ -1,6 +1,5 @@
 -- What a pass sees, one step after another.
-use Rattle.std.proofs.Common.{◌≡◌, ℕ, Bool, true, List, [], ◌∷◌, ◌++◌, Result, Ok, Err, refl, sym, ◌∙◌, ap, append_assoc, append-nil, subst}
-use Rattle.std.proofs.lemmas.List.{map-append}
+use Rattle.std.proofs.Common.{◌≡◌, ℕ, Bool, true, List, [], ◌∷◌, ◌++◌, Result, Ok, Err, refl, sym, ◌∙◌, ap, append_assoc, append-nil}
 use Rattle.std.specs.List.{AllByRecursion}
 use Rattle.repl_json.specs.Reply.{text}
 use Rattle.repl_json.specs.declared.reply.Line.{Line}
@@ -9,7 +8,7 @@ use Rattle.repl_json.specs.declared.request.Request.{Request}
 use Rattle.state_tree.specs.declared.work.Found.{Found}
 use Rattle.state_tree.specs.declared.work.Entry.{Entry}
 use Rattle.state_tree.specs.Value.{Value}
-use Rattle.state_tree.specs.Server.{PlainTree, reply, step, after_all, opening, replay}
+use Rattle.state_tree.specs.Server.{PlainTree, step, after_all, opening, replay}
 use Rattle.state_tree.specs.Prepared.{Prepared}
 use Rattle.state_tree.specs.TreeModel.{TreeModel, entry_of}
 use Rattle.state_tree.specs.Enters.{EntersAs, tree_of}
@@ -19,7 +18,7 @@ use Rattle.session_server.specs.Sees.{Sees, OthersCome, EntersOne}
 use Rattle.session_server.specs.Answers.{IsReplied}
 use Rattle.session_server.specs.declared.answer.Halt.{Halt}
 use Rattle.session_server.specs.declared.answer.Halt.TheVariants.{Write, Full, Worn, Memory}
-use Rattle.session_server.proofs.OwnLemmas.{same_is, own_more, own_all, output_more, output_none, output_one}
+use Rattle.session_server.proofs.OwnLemmas.{own_more, own_all, output_more, output_none, output_one}
 
 all_more : {A : Type 0} (P : A → Type 0) (xs ys : List A) → AllByRecursion P xs → AllByRecursion P ys → AllByRecursion P (xs ++ ys)
 all_more P [] ys p q = q

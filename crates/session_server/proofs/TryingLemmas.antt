@@ -1,8 +1,7 @@
 -- A request that is looked up again.
-use Rattle.std.proofs.Common.{◌≡◌, ℕ, ◌<◌, Bool, List, ◌++◌, length, sym, ◌∙◌, ap, subst, Some, false, Ok}
+use Rattle.std.proofs.Common.{◌≡◌, ℕ, ◌<◌, Bool, length, sym, ◌∙◌, ap, subst, false, Ok}
 use Rattle.repl_json.specs.declared.reply.Line.{Line}
 use Rattle.repl_json.specs.declared.request.Ask.{Ask}
-use Rattle.repl_json.specs.declared.request.Request.{Request}
 use Rattle.state_tree.specs.declared.work.Found.{Found}
 use Rattle.state_tree.specs.declared.tree.Outcome.{Outcome}
 use Rattle.state_tree.specs.declared.tree.Outcome.TheVariants.{Entered, Again, Full}

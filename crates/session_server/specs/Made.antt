@@ -1,5 +1,5 @@
 -- Requests that are made ready, each on what its look found.
-use Rattle.std.specs.Prelude.{◌≡◌, ◌⊎◌, Bool, true, false, not, List, Option, Some, None, is_some, IfSome}
+use Rattle.std.specs.Prelude.{◌≡◌, ◌⊎◌, true, false, not, Option, Some, None, is_some, IfSome}
 use Rattle.repl_json.specs.declared.request.Ask.{Ask}
 use Rattle.repl_json.specs.declared.request.Request.{Request}
 use Rattle.state_tree.specs.declared.work.Found.{Found}

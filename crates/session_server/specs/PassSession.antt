@@ -11,7 +11,7 @@ use Rattle.session_server.specs.Entered.{requests_in, with_entries}
 use Rattle.session_server.specs.Own.{own, own_output}
 use Rattle.session_server.specs.Session.{EntersOf, Writes}
 use Rattle.session_server.specs.declared.run.End.{End}
-use Rattle.session_server.specs.declared.run.End.TheVariants.{Done, ReadFault, WriteFault, Full, Worn, Long, Memory}
+use Rattle.session_server.specs.declared.run.End.TheVariants.{Full, Long}
 
 -- The number that the end tells. Full tells that the journal holds all its entries. The number of a worn lock is that of the pass.
 abbrev pub Reaches : {E : Type 0} → TreeModel E → End → Type 0

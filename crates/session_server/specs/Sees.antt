@@ -1,5 +1,5 @@
 -- What a session sees of the journal that it enters into.
-use Rattle.std.specs.Prelude.{◌≡◌, ◌<◌, ◌≤◌, ◌⊎◌, ℕ, Bool, true, List, [], ◌∷◌, Result, Ok, Err}
+use Rattle.std.specs.Prelude.{◌≡◌, ℕ, Bool, true, List, [], ◌∷◌}
 use Rattle.std.specs.List.{AllByRecursion}
 use Rattle.repl_json.specs.Reply.{text}
 use Rattle.repl_json.specs.declared.reply.Line.{Line}

@@ -1,5 +1,5 @@
 -- Whether the turns of a board were enough for a session.
-use Rattle.std.specs.Prelude.{◌≡◌, ◌≤◌, ℕ}
+use Rattle.std.specs.Prelude.{◌≡◌, ◌≤◌}
 use Rattle.turn_lock.specs.Meanings.{MAX_TURNS}
 use Rattle.shared_board.specs.Boards.{BoardPassMeaning}
 use Rattle.shared_board.specs.Calls.{IsInTime}

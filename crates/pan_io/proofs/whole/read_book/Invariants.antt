@@ -1,4 +1,4 @@
-use Rattle.std.proofs.Common.{◌≡◌, ◌<◌, ◌≤◌, ◌-◌, true, vec_len}
+use Rattle.std.proofs.Common.{◌≡◌, ◌≤◌, ◌-◌, true, vec_len}
 use Rattle.pan_io.specs.Whole.{IsPartOf}
 use Rattle.pan_io.proofs.whole.read_book.Given as goal
 

@@ -1,7 +1,7 @@
 use Rattle.std.proofs.Common.{List, ℕ, subst}
 use Rattle.session_server.specs.Input.{requests_of_line}
 use Rattle.session_server.specs.Answers.{AnswersLine}
-use Rattle.session_server.proofs.GoingLemmas.{went_none, goes_step}
+use Rattle.session_server.proofs.GoingLemmas.{goes_step}
 use Rattle.session_server.proofs.SessionLemmas.{line_taken, long_taken, end_taken, fault_taken, exceeded_taken}
 use Rattle.session_server.proofs.run.answer_next.Goals as goal
 

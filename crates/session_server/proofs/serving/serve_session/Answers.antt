@@ -1,4 +1,4 @@
-use Rattle.std.proofs.Common.{ℕ, refl, sym, subst}
+use Rattle.std.proofs.Common.{ℕ, subst}
 use Rattle.state_tree.proofs.Shown.{replies_shown}
 use Rattle.shared_board.specs.Calls.{tree_with}
 use Rattle.session_server.specs.PassSession.{PassSession}
