@@ -1,0 +1,15 @@
+mod EachFrom
+mod Counting
+mod WholeJournal
+mod Along
+mod Accepted
+mod Back
+mod ByLinks
+mod Fits
+mod Leaves
+mod Serving
+mod Complete
+mod InPlace
+mod Seating
+mod Accepting
+mod Crossing
