@@ -2,7 +2,6 @@
 use Rattle.std.specs.Prelude.{ℕ, List, [], ◌∷◌, Option, None, true, if◌then◌else◌, codes, option_map, option_and_then, map}
 use Rattle.std.specs.Str.{bytes_eq}
 use Rattle.command_line.specs.Given.{Text, Known, Given, are_words, value, options, places, number, ranged, number_or}
-use Rattle.command_line.specs.Built.{is_built}
 
 pub data Command : Type 0 where
   run : (book : Option Text) (entries workers : ℕ) → Command
@@ -66,10 +65,6 @@ abbrev pub command_of : List Text → Option Command
 command_of [] = None
 command_of (name ∷ words) = after_subcommand name words
 
--- the form that the words have, be it built or not, and None where they are refused
-abbrev pub any_form_of : List Text → Option Command
-any_form_of words = if are_words words then command_of words else None
-
--- the form that the words have, of those that are built, and None where they are refused
+-- the form that the words have, and None where they are refused
 abbrev pub form_of : List Text → Option Command
-form_of words = if is_built words then any_form_of words else None
+form_of words = if are_words words then command_of words else None

@@ -1,6 +1,5 @@
 -- What the clauses of this crate cite.
 pub mod Given
-pub mod Built
 pub mod Form
 pub mod Range
 pub mod Seen

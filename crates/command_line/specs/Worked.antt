@@ -2,7 +2,7 @@
 use Rattle.std.specs.Prelude.{◌≡◌, ℕ, List, [], ◌==◌, Option, Some, None, codes}
 use Rattle.std.specs.List.{slice_split}
 use Rattle.command_line.specs.Given.{Text}
-use Rattle.command_line.specs.Form.{Command, run, serve, check, demo, form_of, any_form_of}
+use Rattle.command_line.specs.Form.{Command, run, serve, check, demo, form_of}
 
 -- the words of a line, which blanks part
 abbrev words_in : List ℕ → List Text
@@ -10,10 +10,6 @@ words_in line = slice_split (λ byte. byte == 32) line
 
 abbrev Has : List ℕ → Option Command → Type 0
 Has line form = form_of (words_in line) ≡ form
-
--- the form of words that may ask for what is not built
-abbrev WillHave : List ℕ → Option Command → Type 0
-WillHave line form = any_form_of (words_in line) ≡ form
 
 abbrev pub WorkedForms : Type 0
 WorkedForms =
@@ -23,6 +19,8 @@ WorkedForms =
     × Has (codes "check a") (Some (check (codes "a")))
     × Has (codes "demo 007 01") (Some (demo 7 1))
     × Has (codes "demo 9999999999999999999 10000") (Some (demo 9999999999999999999 10000))
+    × Has (codes "serve --sessions 2 --listen a:1") (Some (serve (codes "a:1") None 65536 1 2))
+    × Has (codes "serve --book b --listen a:1 --workers 3 --entries 4") (Some (serve (codes "a:1") (Some (codes "b")) 4 3 1))
     -- an option with `=`, whose value may begin with `-` and hold a further `=`
     × Has (codes "run --book=a=b") (Some (run (Some (codes "a=b")) 65536 1))
     × Has (codes "run --book=-x --entries=7") (Some (run (Some (codes "-x")) 7 1))
@@ -62,11 +60,5 @@ WorkedRefusals =
     × Has (codes "demo 00000000000000000001 0") None
     × Has (codes "demo 7 10001") None
     × Has (codes "demo 7") None
-    -- what is not built
-    × Has (codes "serve --listen a:1") None
-
-abbrev pub WorkedLater : Type 0
-WorkedLater =
-    WillHave (codes "serve --sessions 2 --listen a:1") (Some (serve (codes "a:1") None 65536 1 2))
-    × WillHave (codes "serve --book b --listen a:1 --workers 3 --entries 4") (Some (serve (codes "a:1") (Some (codes "b")) 4 3 1))
-    × WillHave (codes "serve --book b") None
+    × Has (codes "serve --book b") None
+    × Has (codes "serve --listen a:1 --sessions 65") None

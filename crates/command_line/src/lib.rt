@@ -1,7 +1,7 @@
 //! The words of the command line, read with `clap`.
 //!
 //! [`read_words`] gives the form that the words have, and [`usage`] the note for words that have none.
-//! `specs/Form.antt` says what the forms are, and `specs/Built.antt` which of them are served so far.
+//! `specs/Form.antt` says what the forms are.
 #![tactic(auto)]
 
 mod check;
@@ -17,7 +17,7 @@ mod worked;
 
 pub use note::usage;
 pub use words::{Form, read_words};
-pub use worked::{worked_forms, worked_later, worked_refusals};
+pub use worked::{worked_forms, worked_refusals};
 
 #[cfg(test)]
 mod tests;

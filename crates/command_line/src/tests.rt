@@ -1,7 +1,6 @@
 //! That words are read where there is memory: worked words and their forms, as tables.
 
 use super::*;
-use crate::words::read_any;
 use std::alloc::{AllocError, Global};
 use std::test::Fail;
 
@@ -52,19 +51,6 @@ fn words_have_their_forms(rt: HostRuntime) -> Result<(), Fail> {
         ("check -- x", None),
         ("demo 007 01", Some(Form::Demo { seed: 7, count: 1 })),
         ("demo 7 10001", None),
-        ("", None),
-    ];
-    for (line, form) in rows {
-        let words = words_in(rt.alloc(), line)?;
-        assert_eq!(rt; read_words(rt.alloc(), &words)?, form, "{line}");
-    }
-    assert_eq!(rt; read_words(rt.alloc(), &[])?, None);
-    Ok(())
-}
-
-#[test]
-fn forms_that_are_not_built_are_read(rt: HostRuntime) -> Result<(), Fail> {
-    let rows = [
         (
             "serve --book b --listen a:1 --workers 3 --entries 4 --sessions=2",
             Some(Form::Serve {
@@ -76,10 +62,12 @@ fn forms_that_are_not_built_are_read(rt: HostRuntime) -> Result<(), Fail> {
             }),
         ),
         ("serve --book b", None),
+        ("", None),
     ];
     for (line, form) in rows {
         let words = words_in(rt.alloc(), line)?;
-        assert_eq!(rt; read_any(rt.alloc(), &words)?, form, "{line}");
+        assert_eq!(rt; read_words(rt.alloc(), &words)?, form, "{line}");
     }
+    assert_eq!(rt; read_words(rt.alloc(), &[])?, None);
     Ok(())
 }

@@ -2,13 +2,13 @@
 
 ghost use Rattle.std.specs.Prelude.{◌≡◌, true, map, IfOk, IfSome, option_map, string_bytes};
 ghost use Rattle.command_line.specs.Given.{are_words};
-ghost use Rattle.command_line.specs.Form.{form_of, any_form_of, after_subcommand};
+ghost use Rattle.command_line.specs.Form.{form_of, after_subcommand};
 ghost use Rattle.command_line.specs.Range.{IsInRange};
 ghost use Rattle.command_line.specs.Seen.{seen};
 
 use crate::check::read_check;
 use crate::demo::read_demo;
-use crate::plain::{are_words, is_built};
+use crate::plain::are_words;
 use crate::run::read_run;
 use crate::serve::read_serve;
 use std::alloc::{AllocError, Global};
@@ -48,17 +48,6 @@ pub enum Form<'a> {
 pub fn read_words<'a>(alloc: Global, words: &'a [String]) -> Result<Option<Form<'a>>, AllocError>
     ensures form { IfOk result (λ o. option_map seen o ≡ form_of (map string_bytes words.now)) }
     // Each number is in its range.
-    ensures range { IfOk result (λ o. IfSome o (λ form. IsInRange (seen form))) }
-{
-    if !is_built(words) {
-        return Ok(None);
-    }
-    read_any(alloc, words)
-}
-
-/// The form that the words have, be it built or not.
-pub fn read_any<'a>(alloc: Global, words: &'a [String]) -> Result<Option<Form<'a>>, AllocError>
-    ensures form { IfOk result (λ o. option_map seen o ≡ any_form_of (map string_bytes words.now)) }
     ensures range { IfOk result (λ o. IfSome o (λ form. IsInRange (seen form))) }
 {
     if !are_words(words) {

@@ -1,6 +1,6 @@
 //! Worked words, which the checker computes. Nothing here is called at run time.
 
-ghost use Rattle.command_line.specs.Worked.{WorkedForms, WorkedRefusals, WorkedLater};
+ghost use Rattle.command_line.specs.Worked.{WorkedForms, WorkedRefusals};
 
 /// Words that are served.
 pub fn worked_forms()
@@ -10,9 +10,4 @@ pub fn worked_forms()
 /// Words that are refused.
 pub fn worked_refusals()
     ensures { WorkedRefusals }
-{}
-
-/// Forms that are read, and not served so far.
-pub fn worked_later()
-    ensures { WorkedLater }
 {}

@@ -6,3 +6,6 @@ pub mod Rounds
 pub mod Lengths
 pub mod Demos
 pub mod Endings
+pub mod Serving
+pub mod Heard
+pub mod ClosedBoards

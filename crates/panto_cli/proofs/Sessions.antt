@@ -59,6 +59,10 @@ book_is_sound books file items accepts = record {
   named = book_named 10000000 [] accepts.text items (All-nil (λ (i : Item Term). IsTextName i.name)) accepts.value;
 }
 
+-- what is printed as solved in a legal history is proved, over a book that was accepted
+pub proofs_over : (books : Option (List NamedBytes)) (file : Option Text) (items : Items) → Accepts books file items → (journal : List Entry) → AllPrintSoundly items journal
+proofs_over books file items accepts journal = printed_proofs_are_proofs items journal (book_is_sound books file items accepts)
+
 module _ (items : Items) (entries : ℕ) (input left out out' : Option (List ℕ)) (tree : TreeModel Items) where
   abbrev Ran : End → Type 0
   Ran end = Session {S = State} value input left (opened items entries) tree out out' end
@@ -76,18 +80,14 @@ module _ (items : Items) (entries : ℕ) (input left out out' : Option (List ℕ
   note_is books file (ending.Long n) s = refl
   note_is books file ending.Memory s = refl
 
-  -- what is printed as solved is proved, over a book that was accepted
-  proofs_shown : (books : Option (List NamedBytes)) (file : Option Text) → Accepts books file items → AllPrintSoundly items tree.journal
-  proofs_shown books file accepts = printed_proofs_are_proofs items tree.journal (book_is_sound books file items accepts)
-
   pub runs_so : (books : Option (List NamedBytes)) (file : Option Text) → Accepts books file items → IsLegal {S = State} value items tree.journal → length tree.journal ≤ entries → (end : End) → Ran end → ShowsMemory 0 tree.journal out out' end → Runs books file entries input left out out' (status_of end)
-  runs_so books file accepts legal room ending.Done s shown = (items, accepts, record { end = ending.Done; named = refl; tree = tree; session = s; legal = legal; room = room; shown = shown }, proofs_shown books file accepts)
-  runs_so books file accepts legal room ending.ReadFault s shown = (items, accepts, record { end = ending.ReadFault; named = refl; tree = tree; session = s; legal = legal; room = room; shown = shown }, proofs_shown books file accepts)
-  runs_so books file accepts legal room ending.WriteFault s shown = (items, accepts, record { end = ending.WriteFault; named = refl; tree = tree; session = s; legal = legal; room = room; shown = shown }, proofs_shown books file accepts)
-  runs_so books file accepts legal room (ending.Full n) s shown = (items, accepts, record { end = ending.Full n; named = refl; tree = tree; session = s; legal = legal; room = room; shown = shown }, proofs_shown books file accepts)
+  runs_so books file accepts legal room ending.Done s shown = (items, accepts, record { end = ending.Done; named = refl; tree = tree; session = s; legal = legal; room = room; shown = shown }, proofs_over books file items accepts tree.journal)
+  runs_so books file accepts legal room ending.ReadFault s shown = (items, accepts, record { end = ending.ReadFault; named = refl; tree = tree; session = s; legal = legal; room = room; shown = shown }, proofs_over books file items accepts tree.journal)
+  runs_so books file accepts legal room ending.WriteFault s shown = (items, accepts, record { end = ending.WriteFault; named = refl; tree = tree; session = s; legal = legal; room = room; shown = shown }, proofs_over books file items accepts tree.journal)
+  runs_so books file accepts legal room (ending.Full n) s shown = (items, accepts, record { end = ending.Full n; named = refl; tree = tree; session = s; legal = legal; room = room; shown = shown }, proofs_over books file items accepts tree.journal)
   runs_so books file accepts legal room (ending.Worn n) s shown = absurd s.tells
-  runs_so books file accepts legal room (ending.Long n) s shown = (items, accepts, record { end = ending.Long n; named = refl; tree = tree; session = s; legal = legal; room = room; shown = shown }, proofs_shown books file accepts)
-  runs_so books file accepts legal room ending.Memory s shown = inr (items, accepts, record { end = ending.Memory; named = refl; tree = tree; session = s; legal = legal; room = room; shown = shown }, proofs_shown books file accepts)
+  runs_so books file accepts legal room (ending.Long n) s shown = (items, accepts, record { end = ending.Long n; named = refl; tree = tree; session = s; legal = legal; room = room; shown = shown }, proofs_over books file items accepts tree.journal)
+  runs_so books file accepts legal room ending.Memory s shown = inr (items, accepts, record { end = ending.Memory; named = refl; tree = tree; session = s; legal = legal; room = room; shown = shown }, proofs_over books file items accepts tree.journal)
 
   own_lines : (end : End) → Ran end → ((es : List Entry) → Adds (opened items entries) tree es → ShowsMemory 0 es out out' end) → ShowsMemory 0 tree.journal out out' end
   own_lines end s shows = subst (λ es. ShowsMemory 0 es out out' end) (sym (ap (λ (t : TreeModel Items). t.journal) s.adds.grows)) (shows s.entries s.adds)

@@ -6,3 +6,6 @@ pub mod Notes
 pub mod Demo
 pub mod Run
 pub mod Ends
+pub mod Links
+pub mod Serve
+pub mod Serving

@@ -15,6 +15,7 @@ abbrev pub status_in : Outcome → Status
 status_in (outcome.Plain status) = status
 status_in (outcome.Full entries) = Full
 status_in (outcome.BookRefused object) = BookRefused
+status_in outcome.DoorFault = OpenFault
 
 -- the line of a status that shows nothing more
 abbrev pub plain_line : Status → List ℕ
@@ -33,6 +34,7 @@ abbrev pub line_of : Outcome → List ℕ
 line_of (outcome.Plain status) = plain_line status
 line_of (outcome.Full entries) = codes "panto: full " ++ (decimal entries ++ codes "\n")
 line_of (outcome.BookRefused object) = codes "panto: book: " ++ (object.items ++ codes "\n")
+line_of outcome.DoorFault = codes "panto: door fault\n"
 
 -- of a session that ended so
 abbrev pub outcome_of : End → Outcome

@@ -10,10 +10,13 @@ mod host;
 mod notes;
 mod pieces;
 mod run;
+mod serve;
 mod status;
 
+pub use link_server::Served;
 pub use notes::write_note;
 pub use run::panto_run;
+pub use serve::{Ended, panto_serve};
 pub use status::Status;
 
 #[cfg(test)]
@@ -22,6 +25,8 @@ mod bad_input_tests;
 mod book_tests;
 #[cfg(test)]
 mod goal_tests;
+#[cfg(test)]
+mod serve_tests;
 #[cfg(test)]
 mod session_tests;
 #[cfg(test)]

@@ -19,6 +19,8 @@ pub enum Outcome {
     Full(u32),
     /// The book is refused, with this JSON object.
     BookRefused(Vec<u8>),
+    /// The doors failed.
+    DoorFault,
 }
 
 impl Outcome {
@@ -30,6 +32,7 @@ impl Outcome {
             Outcome::Plain(status) => *status,
             Outcome::Full(_) => Status::Full,
             Outcome::BookRefused(_) => Status::BookRefused,
+            Outcome::DoorFault => Status::OpenFault,
         }
     }
 }
@@ -84,6 +87,15 @@ pub fn write_note<N: Sink>(notes: &mut N, status: Status)
     let _written = put_all(notes, plain_line(status).as_bytes());
 }
 
+/// Writes the line of doors that failed. A fault of the notes changes nothing else.
+fn write_door_fault<N: Sink>(notes: &mut N)
+    ensures noted { Noted (N.taken notes.old) (N.taken notes.new) (N.faults notes.old) (N.faults notes.new) (codes "panto: door fault\n") }
+    ensures tells { is_some (N.taken notes.new) ≡ is_some (N.taken notes.old) }
+    ensures later { N.faults notes.old ≤ N.faults notes.new }
+{
+    let _written = put_all(notes, b"panto: door fault\n");
+}
+
 /// Writes the line of a run's end. A fault of the notes changes nothing else. It takes no memory.
 pub fn write_outcome<N: Sink>(notes: &mut N, outcome: &Outcome)
     ensures noted { Noted (N.taken notes.old) (N.taken notes.new) (N.faults notes.old) (N.faults notes.new) (line_of outcome.now) }
@@ -94,5 +106,6 @@ pub fn write_outcome<N: Sink>(notes: &mut N, outcome: &Outcome)
         Outcome::Plain(status) => write_note(notes, *status),
         Outcome::Full(entries) => write_full(notes, *entries),
         Outcome::BookRefused(object) => write_refusal(notes, object),
+        Outcome::DoorFault => write_door_fault(notes),
     }
 }

@@ -30,7 +30,7 @@ use std::thread::Threads;
 use worker_gate::Gate;
 
 /// How a run ended whose session ended so.
-fn ended(end: End) -> Outcome
+pub fn outcome_of(end: End) -> Outcome
     ensures { result ≡ outcome_of end }
 {
     match end {
@@ -67,7 +67,7 @@ fn serve_book<R: Threads + Sync, S: Source, K: Sink, G: Gate>(
     );
     // The length tells that the entries are a legal history.
     let _length = tree.length();
-    ended(end)
+    outcome_of(end)
 }
 
 /// Opens the book and answers the requests of the input.

@@ -19,7 +19,7 @@ const ECHOED: &str =
     "{\"expr\":\"fun (%0 : *) => fun (%1 : %0) => %1\",\"seq\":0,\"type\":\"(%0 : *) -> %0 -> %0\"}\n";
 
 const USAGE: &str =
-    "usage: panto run [--book FILE] [--entries N] [--workers N]\n       panto check FILE\n       panto demo SEED COUNT\n";
+    "usage: panto run [--book FILE] [--entries N] [--workers N]\n       panto serve --listen ADDRESS [--book FILE] [--entries N] [--workers N] [--sessions N]\n       panto check FILE\n       panto demo SEED COUNT\n";
 
 const BOOK: &str =
     "prim N : *; prim a : N(); prim b : N(); prim c : N(); prim le (x : N()) (y : N()) : *; \
