@@ -1,6 +1,6 @@
 //! Links over a tree whose commands say always the same.
 
-ghost use Rattle.std.specs.Prelude.{◌≡◌, IfOk};
+ghost use Rattle.std.specs.Prelude.{◌≡◌, ◌≤◌, IfOk};
 ghost use Rattle.state_tree.specs.Toy.{said_body};
 ghost use Rattle.state_tree.specs.ToyReplies.{said_is_reply};
 ghost use Rattle.state_tree.specs.Value.{Says};

@@ -146,6 +146,7 @@ fn the_least_link_that_was_not_done_names_the_status(rt: HostRuntime) -> Result<
         left.notes.as_slice(),
         b"panto: listening\npanto: full 1\n".as_slice()
     );
+    assert_eq!(rt; left.ended.served.len(), 3);
     assert_eq!(rt; left.ended.served[0].end, End::Done);
     assert_eq!(rt; left.ended.served[2].end, End::Full { entries: 1 });
     Ok(())
@@ -278,6 +279,7 @@ fn two_sessions_at_once(rt: HostRuntime) -> Result<(), Fail> {
     );
     assert_eq!(rt; ended.status, Status::Done);
     assert_eq!(rt; gate.failed.load(Ordering::SeqCst), 0);
+    assert_eq!(rt; ended.served.len(), 2);
     assert_eq!(rt;
         ended.served[1].output.sink.bytes(),
         b"{\"envs\":1,\"live\":0,\"seq\":0,\"states\":0}\n".as_slice()
