@@ -18,7 +18,7 @@ The best of the runs counts. Before and behind stands the load of the machine: n
 import argparse, json, multiprocessing, os, socket, subprocess, tempfile, time
 
 from measure import PANTO
-from session import Generator
+from session import Generator, begin
 
 LINKS, WORKERS = (1, 2, 4, 8), (1, 2, 4)
 TRIES, LEVELS = 64, 30
@@ -42,11 +42,7 @@ class Caller:
 
 def play(caller, generator):
     """One round."""
-    k, e = generator.draw()
-    first = caller.ask("goal.start", expr="(A : *) -> " + " -> ".join(["A"] * (k + 1)))["stateId"]
-    state = first
-    for name in ["A"] + [f"x{i}" for i in range(1, k + 1)]:
-        state = caller.ask("goal.move", stateId=state, move=f"intro {name}")["stateId"]
+    first, state, _, e = begin(caller, generator)
     solved = caller.ask("goal.tries", replies=2, stateId=state, tries=[{"move": "assumption"}, {"move": f"exact x{e}"}])["stateId"]
     assert caller.ask("goal.print", stateId=solved)["solved"]
     caller.ask("goal.delete", stateId=first)

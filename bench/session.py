@@ -61,13 +61,18 @@ class Server:
         self.child.stdin.close()
         assert self.child.wait() == 0
 
-def play(server, generator):
-    """One round; how many states it made."""
+def begin(caller, generator):
+    """Starts the goal of one round and brings its variables in: the first state, the last one, the number of variables, and which of them solves."""
     k, e = generator.draw()
-    first = server.ask("goal.start", expr="(A : *) -> " + " -> ".join(["A"] * (k + 1)))["stateId"]
+    first = caller.ask("goal.start", expr="(A : *) -> " + " -> ".join(["A"] * (k + 1)))["stateId"]
     state = first
     for name in ["A"] + [f"x{i}" for i in range(1, k + 1)]:
-        state = server.ask("goal.move", stateId=state, move=f"intro {name}")["stateId"]
+        state = caller.ask("goal.move", stateId=state, move=f"intro {name}")["stateId"]
+    return first, state, k, e
+
+def play(server, generator):
+    """One round; how many states it made."""
+    first, state, k, e = begin(server, generator)
     server.ask("goal.move", stateId=state, move="assumption")
     solved = server.ask("goal.move", stateId=state, move=f"exact x{e}")["stateId"]
     assert server.ask("goal.print", stateId=solved)["solved"]
