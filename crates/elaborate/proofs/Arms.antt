@@ -11,10 +11,10 @@ use Rattle.term_syntax.specs.declared.surface.Surface.{Surface}
 use Rattle.term_syntax.specs.declared.surface.Shape.TheVariants as shape
 use Rattle.unification.specs.Steps.{Outcome, Gave, Step, go_on}
 use Rattle.elaboration.specs.Refusals.{Refusal, UnknownName}
-use Rattle.elaboration.specs.Elaboration.{Work, Made, Want, Any, AsType, Surroundings, with_goal, with_hole, meet, hole, variable, applied, elaborate}
-use Rattle.elaborate.specs.Steps.{cost, known, paid, wanted_product}
+use Rattle.elaboration.specs.Elaboration.{Work, Made, Want, Any, Surroundings, with_goal, with_hole, meet, hole, variable, constant, applied, function, product, elaborate}
+use Rattle.elaborate.specs.Steps.{cost, known, paid}
 use Rattle.elaborate.proofs.Equations.{at_star, at_wild, at_asked, at_named, at_const, at_app, at_lam, at_pi}
-use Rattle.elaborate.proofs.Parts.{constant_is, constant_rest, function_is, function_rest, product_is, product_rest}
+use Rattle.elaborate.proofs.Parts.{constant_is, constant_rest}
 
 paid_is : (k n j : ℕ) (o : Outcome Refusal Made) (rest : Step Refusal Made) → o ≡ go_on (paid k n) (λ _. rest) → paid k n ≡ Gave tt j → o ≡ rest j
 paid_is k n j o rest e q = e ∙ ap (λ z. go_on z (λ _. rest)) q
@@ -35,13 +35,10 @@ module _ (items : List (Item Term)) (t : Surface) (want : Want) (w : Work) (here
   pub named_is : (x : Label) → t.shape ≡ shape.Named x → Given ≡ variable items (UnknownName t.at (label_text x)) (index_of here.outer x here.bound) want w here k
   named_is x is = paid_is (cost t) n k Given (variable items (UnknownName t.at (label_text x)) (index_of here.outer x here.bound) want w here) (at_named items t want w here n x is) had
 
-  pub const_is : (a : Text) (us us' : List Surface) (given : ℕ) → t.shape ≡ shape.Const a us → us' ≡ us → given ≡ length us'
-      → Given ≡ go_on (known t.at a given (item_named items a) k) (constant_rest items a (map (elaborate items) us') want w here)
-  const_is a us us' given is eu eg =
+  pub const_is : (a : Text) (us us' : List Surface) → t.shape ≡ shape.Const a us → us' ≡ us → Given ≡ constant items t.at a (map (elaborate items) us') (item_named items a) want w here k
+  const_is a us us' is eu =
       paid_is (cost t) n k Given _ (at_const items t want w here n a us is) had
-      ∙ constant_is items t.at a (map (elaborate items) us) (item_named items a) want w here k
-      ∙ ap (λ vs. go_on (known t.at a (length (map (elaborate items) vs)) (item_named items a) k) (constant_rest items a (map (elaborate items) vs) want w here)) (sym eu)
-      ∙ ap (λ d. go_on (known t.at a d (item_named items a) k) (constant_rest items a (map (elaborate items) us') want w here)) (length-map us' (elaborate items) ∙ sym eg)
+      ∙ ap (λ vs. constant items t.at a (map (elaborate items) vs) (item_named items a) want w here k) (sym eu)
 
   abbrev pub met : Made → Step Refusal Made
   met m = meet items want m.work here m.term m.ty
@@ -54,15 +51,20 @@ module _ (items : List (Item Term)) (t : Surface) (want : Want) (w : Work) (here
       paid_is (cost t) n k Given _ (at_app items t want w here n f us is) had
       ∙ ap₂ (λ g vs. go_on (elaborate items g Any w here k) (application_rest vs)) (sym ef) (sym eu)
 
-  pub lam_is : (x : Label) (A A' M M' : Surface) → t.shape ≡ shape.Lam x A M → A' ≡ A → M' ≡ M → Given ≡ go_on (wanted_product items want w k) (function_rest items want here x (elaborate items A') (elaborate items M') w)
+  pub lam_is : (x : Label) (A A' M M' : Surface) → t.shape ≡ shape.Lam x A M → A' ≡ A → M' ≡ M → Given ≡ function items x (elaborate items A') (elaborate items M') want w here k
   lam_is x A A' M M' is ea em =
       paid_is (cost t) n k Given _ (at_lam items t want w here n x A M is) had
-      ∙ function_is items want x (elaborate items A) (elaborate items M) w here k
-      ∙ ap₂ (λ B N. go_on (wanted_product items want w k) (function_rest items want here x (elaborate items B) (elaborate items N) w)) (sym ea) (sym em)
+      ∙ ap₂ (λ B N. function items x (elaborate items B) (elaborate items N) want w here k) (sym ea) (sym em)
 
-  pub pi_is : (x x' : Option Label) (A A' B B' : Surface) → t.shape ≡ shape.Pi x A B → x' ≡ x → A' ≡ A → B' ≡ B → Given ≡ go_on (elaborate items A' AsType w here k) (product_rest items want here x' (elaborate items B'))
+  pub pi_is : (x x' : Option Label) (A A' B B' : Surface) → t.shape ≡ shape.Pi x A B → x' ≡ x → A' ≡ A → B' ≡ B → Given ≡ product items x' (elaborate items A') (elaborate items B') want w here k
   pi_is x x' A A' B B' is ex ea eb =
       paid_is (cost t) n k Given _ (at_pi items t want w here n x A B is) had
-      ∙ product_is items want here x (elaborate items A) (elaborate items B) w k
-      ∙ ap (λ y. go_on (elaborate items A AsType w here k) (product_rest items want here y (elaborate items B))) (sym ex)
-      ∙ ap₂ (λ C D. go_on (elaborate items C AsType w here k) (product_rest items want here x' (elaborate items D))) (sym ea) (sym eb)
+      ∙ ap (λ y. product items y (elaborate items A) (elaborate items B) want w here k) (sym ex)
+      ∙ ap₂ (λ C D. product items x' (elaborate items C) (elaborate items D) want w here k) (sym ea) (sym eb)
+
+-- a constant, from its arguments as the program holds them
+pub constant_of : (items : List (Item Term)) (at : ℕ) (a : Text) (us : List Surface) (want : Want) (w : Work) (here : Surroundings) (n : ℕ)
+    → constant items at a (map (elaborate items) us) (item_named items a) want w here n ≡ go_on (known at a (length us) (item_named items a) n) (constant_rest items a (map (elaborate items) us) want w here)
+constant_of items at a us want w here n =
+    constant_is items at a (map (elaborate items) us) (item_named items a) want w here n
+    ∙ ap (λ d. go_on (known at a d (item_named items a) n) (constant_rest items a (map (elaborate items) us) want w here)) (length-map us (elaborate items))

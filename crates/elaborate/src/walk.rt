@@ -3,6 +3,7 @@
 ghost use Rattle.std.specs.Prelude.{◌≡◌, ◌≤◌, All, IfOk, List as Listed, length, map};
 ghost use Rattle.std.specs.Option.{option_copied};
 ghost use Rattle.ld_trees.specs.Term.{Term, none};
+ghost use Rattle.ld_terms.specs.Items.{item_named};
 ghost use Rattle.ld_terms.specs.Views.{Keeps, terms_of};
 ghost use Rattle.ld_terms.specs.declared.globals.Item.{Item};
 ghost use Rattle.ld_terms.specs.declared.globals.Local.{Local};
@@ -21,7 +22,7 @@ use crate::nodes::{
     abstracted, application, function_parts, instance, known, met_domain, product, wanted_product,
 };
 use crate::standing::{Here, Typed, Want, Work};
-use ld_terms::{Fuel, Local, Terms, subst_all};
+use ld_terms::{Fuel, Local, Name, Terms, subst_all};
 use meta_context::Env;
 use std::alloc::Global;
 use term_text::{Label, Shape, Surface};
@@ -55,10 +56,7 @@ pub fn elaborate<'t, T: Terms>(
         Shape::Named(x) => variable(alloc, terms, env, fuel, t.at, x, want, work, here),
         Shape::Const(a, us) => {
             let us = us.as_slice();
-            let item = known(alloc, &*terms, env, t.at, a, us.len())?;
-            let params = item.params.as_slice();
-            let (work, args) = arguments(alloc, terms, env, fuel, work, here, us, params)?;
-            instance(alloc, terms, env, fuel, want, here, a, item.ty, work, &args)
+            constant(alloc, terms, env, fuel, t.at, a, us, want, work, here)
         }
         Shape::App(f, us) => {
             let f = elaborate(alloc, terms, env, fuel, Want::Any, work, here, f.get())?;
@@ -66,42 +64,102 @@ pub fn elaborate<'t, T: Terms>(
             meet(alloc, terms, env, fuel, want, here, typed)
         }
         Shape::Lam(x, a, m) => {
-            let wanted = wanted_product(alloc, terms, env, fuel, want, &work, here)?;
-            let a = elaborate(alloc, terms, env, fuel, Want::AsType, work, here, a.get())?;
-            let domain = a.term;
-            let (work, inside) = met_domain(alloc, terms, env, fuel, wanted, a, here)?;
-            let m = under(
-                alloc,
-                terms,
-                env,
-                fuel,
-                inside,
-                work,
-                here,
-                Some(x),
-                domain,
-                m.get(),
-            )?;
-            abstracted(alloc, terms, env, fuel, want, wanted, domain, m, here)
+            let a = a.get();
+            let m = m.get();
+            abstraction(alloc, terms, env, fuel, x, a, m, want, work, here)
         }
         Shape::Pi(x, a, b) => {
-            let a = elaborate(alloc, terms, env, fuel, Want::AsType, work, here, a.get())?;
-            let Typed { work, term, ty: _ } = a;
-            let b = under(
-                alloc,
-                terms,
-                env,
-                fuel,
-                Want::AsType,
-                work,
-                here,
-                x.as_ref(),
-                term,
-                b.get(),
-            )?;
-            product(alloc, terms, env, fuel, want, term, b, here)
+            let x = x.as_ref();
+            let a = a.get();
+            let b = b.get();
+            dependent_product(alloc, terms, env, fuel, x, a, b, want, work, here)
         }
     }
+}
+
+/// Elaborates a constant at a place with its arguments.
+#[cycle(walk)]
+fn constant<'t, T: Terms>(
+    alloc: Global,
+    terms: &mut T,
+    env: &Env<T::Handle>,
+    fuel: &mut Fuel,
+    at: u64,
+    a: &Name,
+    us: &'t [Surface],
+    want: Want<T::Handle>,
+    work: Work<T::Handle>,
+    here: &Here<'_, 't, T::Handle>,
+) -> Result<Typed<T::Handle>, ElabFault<T::Handle>>
+    requires held { IsHeld (T.holds terms.old) env.now work here.now }
+    requires want { IsWantIn (T.holds terms.old) want }
+    ensures value { (Δ : Listed (Item Term)) (W : spec.Want) (w : spec.Work) (s : spec.Surroundings) → IsRead (T.means terms.old) env.now work here.now Δ w s → plain_want (T.means terms.old) want ≡ W → Answers (T.holds terms.new) (T.means terms.new) (plain_typed (T.means terms.new)) (spec.constant Δ at a.now (map (spec.elaborate Δ) us.now) (item_named Δ a.now) W w s fuel.old) fuel.new result }
+    ensures held { IfOk result (IsTypedIn (T.holds terms.new)) }
+    ensures less { fuel.new ≤ fuel.old }
+    ensures kept { Keeps (T.holds terms.old) (T.means terms.old) (T.holds terms.new) (T.means terms.new) }
+{
+    let item = known(alloc, &*terms, env, at, a, us.len())?;
+    let params = item.params.as_slice();
+    let (work, args) = arguments(alloc, terms, env, fuel, work, here, us, params)?;
+    instance(alloc, terms, env, fuel, want, here, a, item.ty, work, &args)
+}
+
+/// Elaborates an abstraction. Where a product is wanted of it, the domains are unified.
+#[cycle(walk)]
+fn abstraction<'t, T: Terms>(
+    alloc: Global,
+    terms: &mut T,
+    env: &Env<T::Handle>,
+    fuel: &mut Fuel,
+    x: &'t Label,
+    a: &'t Surface,
+    m: &'t Surface,
+    want: Want<T::Handle>,
+    work: Work<T::Handle>,
+    here: &Here<'_, 't, T::Handle>,
+) -> Result<Typed<T::Handle>, ElabFault<T::Handle>>
+    requires held { IsHeld (T.holds terms.old) env.now work here.now }
+    requires want { IsWantIn (T.holds terms.old) want }
+    ensures value { (Δ : Listed (Item Term)) (W : spec.Want) (w : spec.Work) (s : spec.Surroundings) → IsRead (T.means terms.old) env.now work here.now Δ w s → plain_want (T.means terms.old) want ≡ W → Answers (T.holds terms.new) (T.means terms.new) (plain_typed (T.means terms.new)) (spec.function Δ x.now (spec.elaborate Δ a.now) (spec.elaborate Δ m.now) W w s fuel.old) fuel.new result }
+    ensures held { IfOk result (IsTypedIn (T.holds terms.new)) }
+    ensures less { fuel.new ≤ fuel.old }
+    ensures kept { Keeps (T.holds terms.old) (T.means terms.old) (T.holds terms.new) (T.means terms.new) }
+{
+    let wanted = wanted_product(alloc, terms, env, fuel, want, &work, here)?;
+    let a = elaborate(alloc, terms, env, fuel, Want::AsType, work, here, a)?;
+    let domain = a.term;
+    let (work, inside) = met_domain(alloc, terms, env, fuel, wanted, a, here)?;
+    let x = Some(x);
+    let m = under(alloc, terms, env, fuel, inside, work, here, x, domain, m)?;
+    abstracted(alloc, terms, env, fuel, want, wanted, domain, m, here)
+}
+
+/// Elaborates a product.
+#[cycle(walk)]
+fn dependent_product<'t, T: Terms>(
+    alloc: Global,
+    terms: &mut T,
+    env: &Env<T::Handle>,
+    fuel: &mut Fuel,
+    x: Option<&'t Label>,
+    a: &'t Surface,
+    b: &'t Surface,
+    want: Want<T::Handle>,
+    work: Work<T::Handle>,
+    here: &Here<'_, 't, T::Handle>,
+) -> Result<Typed<T::Handle>, ElabFault<T::Handle>>
+    requires held { IsHeld (T.holds terms.old) env.now work here.now }
+    requires want { IsWantIn (T.holds terms.old) want }
+    ensures value { (Δ : Listed (Item Term)) (W : spec.Want) (w : spec.Work) (s : spec.Surroundings) → IsRead (T.means terms.old) env.now work here.now Δ w s → plain_want (T.means terms.old) want ≡ W → Answers (T.holds terms.new) (T.means terms.new) (plain_typed (T.means terms.new)) (spec.product Δ (option_copied x.entry) (spec.elaborate Δ a.now) (spec.elaborate Δ b.now) W w s fuel.old) fuel.new result }
+    ensures held { IfOk result (IsTypedIn (T.holds terms.new)) }
+    ensures less { fuel.new ≤ fuel.old }
+    ensures kept { Keeps (T.holds terms.old) (T.means terms.old) (T.holds terms.new) (T.means terms.new) }
+{
+    let a = elaborate(alloc, terms, env, fuel, Want::AsType, work, here, a)?;
+    let Typed { work, term, ty: _ } = a;
+    let ty = Want::AsType;
+    let b = under(alloc, terms, env, fuel, ty, work, here, x, term, b)?;
+    product(alloc, terms, env, fuel, want, term, b, here)
 }
 
 /// Elaborates a part of a text behind one more binder, of that type.
