@@ -1,5 +1,5 @@
 -- The cuts that a search finds.
-use Rattle.std.proofs.Common.{◌≡◌, ◌≢◌, ℕ, ◌<◌, ◌≤◌, ◌+◌, List, [], ◌∷◌, ◌++◌, length, ap, ◌∙◌, subst, get_or, take, drop, arith, zero, suc, inl, inr, ◌⊎◌}
+use Rattle.std.proofs.Common.{◌≡◌, ◌≢◌, ℕ, ◌<◌, ◌≤◌, ◌+◌, List, [], ◌∷◌, ◌++◌, length, ap, ◌∙◌, subst, get_or, set, take, drop, refl, arith, zero, suc, inl, inr, ◌⊎◌}
 use Rattle.std.specs.Prelude.{T}
 use Rattle.std.proofs.lemmas.Grind.{common_steps}
 use Rattle.std.proofs.lemmas.List.Concat.{flat_map-append}
@@ -14,6 +14,27 @@ use Rattle.shared_map.proofs.Around.{Around, AllLess, less_before, above_after, 
 
 pub cut : {A : Type 0} (xs : List A) (i : ℕ) (d : A) → i < length xs → xs ≡ take i xs ++ get_or xs i d ∷ drop (i + 1) xs
 cut xs i d lt = grind (arith, common_steps)
+
+-- the cut after a change of one element
+pub set_cut : {A : Type 0} (xs : List A) (i : ℕ) (x : A) → i < length xs → set xs i x ≡ take i xs ++ x ∷ drop (i + 1) xs
+set_cut [] i x lt = absurd (omega arith)
+set_cut (y ∷ xs) zero x lt = refl
+set_cut (y ∷ xs) (suc i) x lt =
+    let n : suc i + 1 ≡ suc (i + 1) = omega arith in
+    rw n (ap (λ l. y ∷ l) (set_cut xs i x (omega arith)))
+
+-- the same where a further element stands behind the changed one
+pub set_two : {A : Type 0} (xs : List A) (i : ℕ) (a b : A) → i < length xs → set (take (i + 1) xs ++ b ∷ drop (i + 1) xs) i a ≡ take i xs ++ a ∷ b ∷ drop (i + 1) xs
+set_two [] i a b lt = absurd (omega arith)
+set_two (y ∷ xs) zero a b lt = refl
+set_two (y ∷ xs) (suc i) a b lt =
+    let n : suc i + 1 ≡ suc (i + 1) = omega arith in
+    rw n (ap (λ l. y ∷ l) (set_two xs i a b (omega arith)))
+
+pub same_element : {A : Type 0} (xs : List A) (i : ℕ) (d e : A) → i < length xs → get_or xs i d ≡ get_or xs i e
+same_element [] i d e lt = absurd (omega arith)
+same_element (x ∷ xs) zero d e lt = refl
+same_element (x ∷ xs) (suc i) d e lt = same_element xs i d e (omega arith)
 
 within_or : (i n : ℕ) → (i < n) ⊎ (n ≤ i)
 within_or i n = grind arith

@@ -1,5 +1,5 @@
 -- One entry more or changed in a list in order.
-use Rattle.std.proofs.Common.{◌≡◌, ◌≢◌, ℕ, ◌<◌, ◌≤◌, ◌+◌, List, [], ◌∷◌, ◌++◌, length, refl, ap, sym, ◌∙◌, subst, Some, None, cond, get_or, take, drop, arith}
+use Rattle.std.proofs.Common.{◌≡◌, ◌≢◌, ℕ, ◌<◌, ◌≤◌, ◌+◌, List, [], ◌∷◌, ◌++◌, length, refl, ap, sym, ◌∙◌, subst, Some, None, cond, get_or, set, take, drop, arith}
 use Rattle.std.specs.Prelude.{T, is_some, Bool, true, false}
 use Rattle.std.proofs.lemmas.Grind.{common_steps}
 use Rattle.std.specs.FinMap.{find, put, is_sorted}
@@ -12,7 +12,7 @@ use Rattle.std.specs.declared.cmp.Ordering.TheVariants.{Less, Equal, Greater}
 use Rattle.shared_map.specs.Blocks.{IsLeaf}
 use Rattle.shared_map.specs.Search.{IsPlace}
 use Rattle.shared_map.proofs.Around.{find_around, put_around, sorted_left, sorted_right}
-use Rattle.shared_map.proofs.Cuts.{cut, entry_around}
+use Rattle.shared_map.proofs.Cuts.{cut, entry_around, set_cut, same_element}
 
 drop_here : {A : Type 0} (xs : List A) (i : ℕ) (d : A) → i < length xs → drop i xs ≡ get_or xs i d ∷ drop (i + 1) xs
 drop_here xs i d lt = grind (arith, common_steps)
@@ -46,6 +46,10 @@ module _ {K X : Type 0} (R : K → K → Ordering) (o : IsTotalOrder R) (q : K) 
   put_equal k v l c =
       put_at v ∙ ap (λ r. take i es ++ (by_order r ((q, v) ∷ e ∷ []) ((e.0, v) ∷ []) (e ∷ (q, v) ∷ []) ++ drop (i + 1) es)) l
       ∙ ap (λ (d : K). take i es ++ (d, v) ∷ drop (i + 1) es) (sym c)
+
+  -- the value alone changed, where the key of d stays
+  pub put_value : (d : K × X) → d ≡ get_or es i d → (v : X) → R q e.0 ≡ Equal → set es i (d.0, v) ≡ put R q v es
+  put_value d there v l = set_cut es i (d.0, v) h.within ∙ sym (put_equal d.0 v l (ap (λ (p : K × X). p.0) (there ∙ same_element es i d e h.within ∙ sym at)))
 
   pub put_greater : (v : X) → R q e.0 ≡ Greater → put R q v es ≡ take (i + 1) es ++ (q, v) ∷ drop (i + 1) es
   put_greater v l =

@@ -1,23 +1,25 @@
 -- One part more or changed.
-use Rattle.std.proofs.Common.{◌≡◌, ℕ, ◌<◌, ◌≤◌, ◌+◌, ◌-◌, List, [], ◌∷◌, ◌++◌, length, refl, ap, sym, ◌∙◌, subst, get_or, take, drop, map, arith, length-append, append_assoc}
-use Rattle.std.specs.Prelude.{T, Bool, cond, is_some, option_copied, Option, Some, None}
+use Rattle.std.proofs.Common.{◌≡◌, ℕ, ◌<◌, ◌≤◌, ◌+◌, ◌-◌, List, [], ◌∷◌, ◌++◌, length, refl, ap, sym, ◌∙◌, subst, get_or, set, take, drop, map, arith, length-append, append_assoc, append-nil}
+use Rattle.std.specs.Prelude.{T, Bool, cond, is_some, option_copied, Option, Some, None, MatchOption, Result, Ok, Err, IfOk, IfErr}
 use Rattle.std.specs.FinMap.Entries.{length-put}
 use Rattle.std.proofs.Common.{Bor}
 use Rattle.std.specs.List.{take-map, drop-map}
 use Rattle.std.proofs.lemmas.Grind.{common_steps}
 use Rattle.std.proofs.lemmas.List.Concat.{flat_map-append}
-use Rattle.std.proofs.lemmas.List.{get_or-map, length-map, map-append}
+use Rattle.std.proofs.lemmas.List.{get_or-map, length-map, map-append, map-set}
+use Rattle.std.proofs.Math.Seq.{map-set_same}
+use Rattle.std.proofs.lemmas.Result.{IfOk-weaker}
 use Rattle.std.specs.FinMap.{find, put, is_sorted}
 use Rattle.std.specs.Cmp.{IsTotalOrder}
 use Rattle.std.specs.declared.cmp.Ordering.{Ordering}
-use Rattle.shared_map.specs.Blocks.{IsNode, IsMap, joined, NoneEmpty}
+use Rattle.shared_map.specs.Blocks.{IsLeaf, IsNode, IsMap, joined, NoneEmpty}
 use Rattle.shared_map.specs.Search.{IsPlace, cmp_first}
 use Rattle.shared_map.specs.Grown.{AreBlocks, parts_of}
 use Rattle.shared_map.specs.declared.part.Grown.{Grown}
 use Rattle.shared_map.specs.declared.part.Grown.TheVariants.{One, Two}
 use Rattle.shared_map.proofs.Around.{find_around, put_around, sorted_left, sorted_right}
-use Rattle.shared_map.proofs.Cuts.{joined_cut, place_around}
-use Rattle.shared_map.proofs.Edits.{put_sorted}
+use Rattle.shared_map.proofs.Cuts.{joined_cut, place_around, set_cut, set_two, full_at}
+use Rattle.shared_map.proofs.Edits.{put_sorted, put_some}
 
 pub put_together : {P A : Type 0} (f : P → A) (ps : List P) (at : ℕ) (gs a b c : List A) → at < length ps → a ≡ [] ++ map f (take at ps) → b ≡ a ++ gs →
     c ≡ b ++ map f (take (length ps - (at + 1)) (drop (at + 1) ps)) → c ≡ take at (map f ps) ++ (gs ++ drop (at + 1) (map f ps))
@@ -85,6 +87,54 @@ module _ {K X : Type 0} (R : K → K → Ordering) (o : IsTotalOrder R) (q : K) 
         (sym (ap (put R q v) (joined_cut ps i h.within) ∙ put_around R q v (joined (take i ps)) (get_or ps i []) (joined (drop (i + 1) ps)) (place_around R o q ps i s f h)));
     full = rw e (NoneEmpty-append (take i ps) _ (full_take ps i f) (NoneEmpty-append gs _ g.full (full_drop ps (i + 1) f)));
   }
+
+  sorted_at : T (is_sorted R (get_or ps i []))
+  sorted_at = sorted_left R (get_or ps i []) (joined (drop (i + 1) ps)) (sorted_right R (joined (take i ps)) _ (subst (λ l. T (is_sorted R l)) (joined_cut ps i h.within) s))
+
+  -- a part was changed in place
+  pub put_alone : (v : X) (part : List (K × X)) → part ≡ put R q v (get_or ps i []) → AreBlocks (put R q v (joined ps)) (set ps i part)
+  put_alone v part e = put_place v (part ∷ []) (set ps i part)
+      (record { whole = append-nil part ∙ e; full = (rw e (put_some R o q v (get_or ps i []) sorted_at (full_at ps i f h.within)), tt) })
+      (set_cut ps i part h.within)
+
+-- what was tried at a part was tried at the whole
+module _ {K X P : Type 0} (R : K → K → Ordering) (o : IsTotalOrder R) (q : K) (v : X) (f : P → List (K × X)) (ps : List P) (i : ℕ) (p r : P) (s : T (is_sorted R (joined (map f ps)))) (full : NoneEmpty (map f ps)) (h : IsPlace (cmp_first R q) (map f ps) i) (is : p ≡ get_or ps i p) where
+  within_parts : i < length ps
+  within_parts = rw length-map at h.within
+
+  tried_option : (t : Option (K × X)) → MatchOption t (f r ≡ put R q v (f p)) (λ e. (e ≡ (q, v)) × (f r ≡ f p)) →
+      MatchOption t (AreBlocks (put R q v (joined (map f ps))) (map f (set ps i r))) (λ e. (e ≡ (q, v)) × (map f (set ps i r) ≡ map f ps))
+  tried_option None e = rw map-set (put_alone R o q (map f ps) i s full h v (f r) (e ∙ ap (put R q v) (sym (value_at f ps i p within_parts is))))
+  tried_option (Some x) e = (e.0, map-set_same f ps i r p (e.1 ∙ ap f is))
+
+  pub tried_alone : {E : Type 0} (t : Result (Option (K × X)) E) → IfOk t (λ u. MatchOption u (f r ≡ put R q v (f p)) (λ e. (e ≡ (q, v)) × (f r ≡ f p))) →
+      IfOk t (λ u. MatchOption u (AreBlocks (put R q v (joined (map f ps))) (map f (set ps i r))) (λ e. (e ≡ (q, v)) × (map f (set ps i r) ≡ map f ps)))
+  tried_alone t e = IfOk-weaker t _ _ tried_option e
+
+module _ {K X E : Type 0} (R : K → K → Ordering) (o : IsTotalOrder R) (q : K) (v : X) where
+  -- a leaf after an attempt to put an entry into it
+  pub leaf_tried : (es fs : List (K × X)) (t : Result (Option (K × X)) E) → IsLeaf R es → length fs ≤ 64 →
+      IfOk t (λ u. MatchOption u (fs ≡ put R q v es) (λ e. (e ≡ (q, v)) × (fs ≡ es))) → IfErr t (λ e. fs ≡ es) → IsLeaf R fs
+  leaf_tried es fs (Ok None) l few e k = record { sorted = rw e (put_sorted R o q v es l.sorted); some = rw e (put_some R o q v es l.sorted l.some); few = few }
+  leaf_tried es fs (Ok (Some x)) l few e k = rw (e.1) l
+  leaf_tried es fs (Err x) l few e k = rw k l
+
+  -- a node after an attempt to put an entry into it
+  pub node_tried : (ps qs : List (List (K × X))) (t : Result (Option (K × X)) E) → IsNode R ps → 0 < length qs → length qs ≤ 64 →
+      IfOk t (λ u. MatchOption u (AreBlocks (put R q v (joined ps)) qs) (λ e. (e ≡ (q, v)) × (qs ≡ ps))) → IfErr t (λ e. qs ≡ ps) → IsNode R qs
+  node_tried ps qs (Ok None) n some few e k = record { sorted = rw (e.whole) (put_sorted R o q v (joined ps) n.sorted); full = e.full; some = some; few = few }
+  node_tried ps qs (Ok (Some x)) n some few e k = rw (e.1) n
+  node_tried ps qs (Err x) n some few e k = rw k n
+
+-- what a part became stands in its place
+pub one_in_place : {P A : Type 0} (f : P → A) (ps : List P) (at : ℕ) (a : P) (x : A) (g : Grown A) → at < length ps → g ≡ One x → f a ≡ x →
+    map f (set ps at a) ≡ take at (map f ps) ++ (parts_of g ++ drop (at + 1) (map f ps))
+one_in_place f ps at a x g lt e h = rw (e, map-set, h) (set_cut (map f ps) at x (rw length-map lt))
+
+pub two_in_place : {P A : Type 0} (f : P → A) (ps qs : List P) (at : ℕ) (a b : P) (x y : A) (g : Grown A) → at < length ps → g ≡ Two x y → f a ≡ x → f b ≡ y →
+    qs ≡ take (at + 1) ps ++ b ∷ drop (at + 1) ps → map f (set qs at a) ≡ take at (map f ps) ++ (parts_of g ++ drop (at + 1) (map f ps))
+two_in_place f ps qs at a b x y g lt e h k is =
+    rw (e, is, set_two ps at a b lt, map-append, ← h, ← k, take-map, drop-map) refl
 
 module _ {K X : Type 0} (R : K → K → Ordering) where
   joined_halves : (ps : List (List (K × X))) (n : ℕ) → joined ps ≡ joined (take n ps) ++ joined (drop n ps)

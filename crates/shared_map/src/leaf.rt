@@ -1,4 +1,4 @@
-ghost use Rattle.std.specs.Prelude.{◌≡◌, ◌++◌, ◌∷◌, [], ◌+◌, ◌<◌, ◌≤◌, IfOk, OnOk, map, length, take, drop, option_copied, T};
+ghost use Rattle.std.specs.Prelude.{◌≡◌, ◌++◌, ◌∷◌, [], ◌+◌, ◌<◌, ◌≤◌, IfErr, IfOk, MatchOption, OnOk, map, length, take, drop, option_copied, T};
 ghost use Rattle.std.specs.FinMap.{find, put, is_sorted};
 ghost use Rattle.shared_map.specs.Blocks.{IsExact, IsLeaf};
 ghost use Rattle.shared_map.specs.Search.{IsPlace, cmp_first};
@@ -55,6 +55,10 @@ impl<K: Ord + Clone, V: Clone> Part<K, V> for Leaf<K, V> {
         let cut = cut_for(&self.entries, &key);
         let entries = with_key(alloc, &self.entries, key, value)?;
         leaves_of(entries, cut)
+    }
+
+    fn insert(&mut self, _alloc: Global, key: K, value: V) -> Result<Option<(K, V)>, AllocError> {
+        insert_in(&mut self.entries, key, value)
     }
 }
 
@@ -161,6 +165,53 @@ fn copy<K: Clone, V: Clone>(into: &mut Vec<(K, V)>, from: &[(K, V)]) -> Result<(
         into.push((key.clone()?, value.clone()?))?;
     }
     Ok(())
+}
+
+/// Puts a value at the key in these entries themselves. The entry comes back where they have no room for it.
+fn insert_in<K: Ord + Drop, V: Drop>(
+    entries: &mut Vec<(K, V)>,
+    key: K,
+    value: V,
+) -> Result<Option<(K, V)>, AllocError>
+    requires sorted { T (is_sorted K.cmp entries.old.items) }
+    requires some { 0 < length entries.old.items }
+    requires few { length entries.old.items ≤ 64 }
+    ensures tried { IfOk result (λ o. MatchOption o (entries.new.items ≡ put K.cmp key value entries.old.items)
+        (λ e. (e ≡ (key, value)) × (entries.new.items ≡ entries.old.items))) }
+    ensures kept { IfErr result (λ e. entries.new.items ≡ entries.old.items) }
+    ensures few { length entries.new.items ≤ 64 }
+{
+    let at = place_of(entries, &key);
+    match key.cmp(&entries[at].0) {
+        Ordering::Less => insert_at(entries, at, key, value),
+        Ordering::Equal => {
+            entries[at].1 = value;
+            Ok(None)
+        }
+        Ordering::Greater => insert_at(entries, at + 1, key, value),
+    }
+}
+
+/// Makes an entry the one at `at`, before those from there on. It comes back where there is no room for it.
+fn insert_at<K: Drop, V: Drop>(
+    entries: &mut Vec<(K, V)>,
+    at: usize,
+    key: K,
+    value: V,
+) -> Result<Option<(K, V)>, AllocError>
+    requires within { at ≤ length entries.old.items }
+    requires few { length entries.old.items ≤ 64 }
+    ensures tried { IfOk result (λ o. MatchOption o
+        (entries.new.items ≡ take at entries.old.items ++ (key, value) ∷ drop at entries.old.items)
+        (λ e. (e ≡ (key, value)) × (entries.new.items ≡ entries.old.items))) }
+    ensures kept { IfErr result (λ e. entries.new.items ≡ entries.old.items) }
+    ensures few { length entries.new.items ≤ 64 }
+{
+    if entries.len() >= MOST {
+        return Ok(Some((key, value)));
+    }
+    entries.insert(at, (key, value))?;
+    Ok(None)
 }
 
 /// One leaf with these entries, or two where they are too many for one.

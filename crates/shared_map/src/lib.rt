@@ -1,4 +1,5 @@
-//! A persistent finite map: `with` answers a further map, and the map that it was called on stays as it was.
+//! A persistent finite map: `with` answers a further map, and the map that it was called on stays as it was. `insert`
+//! changes a map itself, and the maps that share memory with it stay as they were.
 //!
 //! A map has three levels of sorted blocks, each held through an `Arc`:
 //!
@@ -19,12 +20,17 @@
 //! that would get a 65th part is cut in two, in the middle, or before its new last part, so that keys that come in rising
 //! order leave full blocks behind.
 //!
+//! `insert` copies nothing where no other map has the leaf and its node and the leaf has room. Else it makes a new leaf,
+//! or two, in the place of the old one. It makes a new node as well, or two, where another map has the node, or where
+//! a node of 64 leaves can't change a leaf in place. The list of nodes is never copied.
+//!
 //! In contracts a map is the list of its entries in the order of their keys, each key once. `find`, `put` and
 //! `is_sorted` of std's `FinMap` are the words for it, and std's laws on them (`find-put`, `is_sorted-put`,
 //! `length-put`, `same_entries`) apply. `tables_are_lists` is the law for maps whose keys are the numbers from 0 on.
 #![tactic(auto)]
 
 mod examples;
+mod in_place;
 mod laws;
 mod leaf;
 mod map;

@@ -1,4 +1,4 @@
-ghost use Rattle.std.specs.Prelude.{◌≡◌, ◌≢◌, ◌++◌, ◌∷◌, [], ◌+◌, ◌<◌, ◌≤◌, IfOk, IsTrue, map, length, option_copied, cond, Some, T};
+ghost use Rattle.std.specs.Prelude.{◌≡◌, ◌≢◌, ◌++◌, ◌∷◌, [], ◌+◌, ◌<◌, ◌≤◌, IfErr, IfOk, IsTrue, OnOk, map, length, option_copied, cond, Some, T};
 ghost use Rattle.std.specs.Arc.{arc_value};
 ghost use Rattle.std.specs.FinMap.{find, put, is_sorted};
 ghost use Rattle.std.specs.declared.cmp.Ordering.TheVariants.{Equal};
@@ -6,17 +6,18 @@ ghost use Rattle.shared_map.specs.Blocks.{IsExact, joined, NoneEmpty};
 ghost use Rattle.shared_map.specs.Grown.{AreBlocks};
 ghost use Rattle.shared_map.specs.Top.{nodes_in};
 
+use crate::in_place::{insert_at, renew_at};
 use crate::node::Node;
 use crate::part::{place_of, share, value_of, with_key};
 use std::alloc::{AllocError, Global};
 use std::marker::Model;
 use std::sync::Arc;
 
-/// A finite map from keys to values that never changes. `with` answers a further map, which shares almost all of its
-/// memory with this one.
+/// A finite map from keys to values. `with` answers a further map, which shares almost all of its memory with this one.
+/// `insert` changes this map alone.
 ///
-/// In contracts it is the list of its entries in the order of their keys, each key once. All its calls read through
-/// `&self` and nothing in it can be written, so threads may read one map, and make further maps from it, at once.
+/// In contracts it is the list of its entries in the order of their keys, each key once. All its calls but `insert` read
+/// through `&self` and write nothing, so threads may read one map, and make further maps from it, at once.
 /// Where keys and values are `Send` and `Sync`, so is the map.
 #[derive(Drop)]
 pub struct SharedMap<K: Ord, V> {
@@ -92,6 +93,28 @@ impl<K: Ord + Clone, V: Clone> SharedMap<K, V> {
         })
     }
 
+    /// Gives a key a value in this map itself. Where the key is in the map already, that key stays and its value is
+    /// replaced. Maps made from this one before stay as they were.
+    ///
+    /// What no other map shares is changed in place, and a clone is made of a leaf that is full or shared. A clone of a
+    /// key or value must equal it.
+    ///
+    /// # Errors
+    ///
+    /// `AllocError` where memory runs out; then the map is as it was. A map of 18,446,744,073,709,551,615 keys gets no
+    /// further one: that counts as want of memory.
+    pub fn insert(&mut self, alloc: Global, key: K, value: V) -> Result<(), AllocError>
+        requires keys { IsExact K.is_clone }
+        requires values { IsExact V.is_clone }
+        ensures changed { OnOk result (self.new ≡ put K.cmp key value self.old) }
+        ensures kept { IfErr result (λ e. self.new ≡ self.old) }
+    {
+        let count = counted(self.count, self.get(&key).is_some())?;
+        insert_among(alloc, &mut self.nodes, key, value)?;
+        self.count = count;
+        Ok(())
+    }
+
     /// The same map again, for a second owner. It copies the list of nodes and shares everything below it. This map
     /// stays as it was, at an error too.
     ///
@@ -146,13 +169,75 @@ fn nodes_with<K: Ord + Clone, V: Clone>(
         AreBlocks (put K.cmp key value (joined (map arc_value nodes.now))) (map arc_value v.items)) }
 {
     if nodes.is_empty() {
-        let node = Node::one(alloc, key, value)?;
-        let mut made = Vec::with_capacity(alloc, 1)?;
-        made.push(Arc::new(alloc, node)?)?;
-        return Ok(made);
+        return one_node(alloc, key, value);
     }
     let at = place_of(nodes, &key);
     with_key(alloc, nodes, at, key, value)
+}
+
+/// A list of one node, which has one entry.
+fn one_node<K: Ord + Drop, V: Drop>(
+    alloc: Global,
+    key: K,
+    value: V,
+) -> Result<Vec<Arc<Node<K, V>>>, AllocError>
+    ensures { IfOk result (λ v. map arc_value v.items ≡ ((key, value) ∷ []) ∷ []) }
+{
+    let node = Node::one(alloc, key, value)?;
+    let mut made = Vec::with_capacity(alloc, 1)?;
+    made.push(Arc::new(alloc, node)?)?;
+    Ok(made)
+}
+
+/// Gives a key a value among the nodes of a map. At an error they are as they were.
+fn insert_among<K: Ord + Clone, V: Clone>(
+    alloc: Global,
+    nodes: &mut Option<Vec<Arc<Node<K, V>>>>,
+    key: K,
+    value: V,
+) -> Result<(), AllocError>
+    requires keys { IsExact K.is_clone }
+    requires values { IsExact V.is_clone }
+    requires sorted { T (is_sorted K.cmp (joined (map arc_value (nodes_in nodes.old)))) }
+    requires full { NoneEmpty (map arc_value (nodes_in nodes.old)) }
+    ensures changed { OnOk result (
+        AreBlocks (put K.cmp key value (joined (map arc_value (nodes_in nodes.old))))
+        (map arc_value (nodes_in nodes.new))) }
+    ensures kept { IfErr result (λ e. map arc_value (nodes_in nodes.new) ≡ map arc_value (nodes_in nodes.old)) }
+{
+    match nodes {
+        Some(list) => insert_in(alloc, list, key, value),
+        None => {
+            *nodes = Some(one_node(alloc, key, value)?);
+            Ok(())
+        }
+    }
+}
+
+/// Gives a key a value in a list of nodes, in place where it can. At an error the nodes are as they were.
+fn insert_in<K: Ord + Clone, V: Clone>(
+    alloc: Global,
+    nodes: &mut Vec<Arc<Node<K, V>>>,
+    key: K,
+    value: V,
+) -> Result<(), AllocError>
+    requires keys { IsExact K.is_clone }
+    requires values { IsExact V.is_clone }
+    requires sorted { T (is_sorted K.cmp (joined (map arc_value nodes.old.items))) }
+    requires full { NoneEmpty (map arc_value nodes.old.items) }
+    ensures changed { OnOk result (
+        AreBlocks (put K.cmp key value (joined (map arc_value nodes.old.items))) (map arc_value nodes.new.items)) }
+    ensures kept { IfErr result (λ e. map arc_value nodes.new.items ≡ map arc_value nodes.old.items) }
+{
+    if nodes.is_empty() {
+        *nodes = one_node(alloc, key, value)?;
+        return Ok(());
+    }
+    let at = place_of(nodes, &key);
+    match insert_at(alloc, nodes, at, key, value)? {
+        None => Ok(()),
+        Some((key, value)) => renew_at(alloc, nodes, at, key, value),
+    }
 }
 
 /// A second list of the same nodes.

@@ -1,9 +1,10 @@
-ghost use Rattle.std.specs.Prelude.{◌≡◌, ◌++◌, ◌∷◌, [], ◌+◌, ◌<◌, ◌≤◌, IfOk, map, length, T};
+ghost use Rattle.std.specs.Prelude.{◌≡◌, ◌++◌, ◌∷◌, [], ◌+◌, ◌<◌, ◌≤◌, IfErr, IfOk, MatchOption, map, length, T};
 ghost use Rattle.std.specs.Arc.{arc_value};
-ghost use Rattle.std.specs.FinMap.{is_sorted};
-ghost use Rattle.shared_map.specs.Blocks.{joined, NoneEmpty};
+ghost use Rattle.std.specs.FinMap.{put, is_sorted};
+ghost use Rattle.shared_map.specs.Blocks.{IsExact, joined, NoneEmpty};
 ghost use Rattle.shared_map.specs.Grown.{parts_of, AreBlocks};
 
+use crate::in_place::{insert_at, renew_at};
 use crate::leaf::Leaf;
 use crate::part::{Grown, Part, place_of, value_of, with_key};
 use std::alloc::{AllocError, Global};
@@ -61,6 +62,10 @@ impl<K: Ord + Clone, V: Clone> Part<K, V> for Node<K, V> {
         let leaves = with_key(alloc, &self.leaves, at, key, value)?;
         nodes_of(leaves, cut)
     }
+
+    fn insert(&mut self, alloc: Global, key: K, value: V) -> Result<Option<(K, V)>, AllocError> {
+        insert_in(alloc, &mut self.leaves, key, value)
+    }
 }
 
 /// Where a node that gets a 65th leaf is cut: before that leaf if it is the last, so that keys that come in rising
@@ -74,6 +79,40 @@ fn cut_for<T>(leaves: &[Arc<T>], at: usize) -> usize
         MOST
     } else {
         MOST / 2
+    }
+}
+
+/// Puts a value at the key among these leaves. Where that takes a new leaf and there may be no further one, the entry
+/// comes back.
+fn insert_in<K: Ord + Clone, V: Clone>(
+    alloc: Global,
+    leaves: &mut Vec<Arc<Leaf<K, V>>>,
+    key: K,
+    value: V,
+) -> Result<Option<(K, V)>, AllocError>
+    requires keys { IsExact K.is_clone }
+    requires values { IsExact V.is_clone }
+    requires sorted { T (is_sorted K.cmp (joined (map arc_value leaves.old.items))) }
+    requires full { NoneEmpty (map arc_value leaves.old.items) }
+    requires some { 0 < length leaves.old.items }
+    requires few { length leaves.old.items ≤ 64 }
+    ensures tried { IfOk result (λ o. MatchOption o
+        (AreBlocks (put K.cmp key value (joined (map arc_value leaves.old.items))) (map arc_value leaves.new.items))
+        (λ e. (e ≡ (key, value)) × (map arc_value leaves.new.items ≡ map arc_value leaves.old.items))) }
+    ensures kept { IfErr result (λ e. map arc_value leaves.new.items ≡ map arc_value leaves.old.items) }
+    ensures some { 0 < length leaves.new.items }
+    ensures few { length leaves.new.items ≤ 64 }
+{
+    let at = place_of(leaves, &key);
+    match insert_at(alloc, leaves, at, key, value)? {
+        None => Ok(None),
+        Some((key, value)) => {
+            if leaves.len() >= MOST {
+                return Ok(Some((key, value)));
+            }
+            renew_at(alloc, leaves, at, key, value)?;
+            Ok(None)
+        }
     }
 }
 

@@ -1,4 +1,4 @@
-ghost use Rattle.std.specs.Prelude.{◌≡◌, ◌++◌, ◌∷◌, [], ◌+◌, ◌<◌, ◌≤◌, IfOk, OnOk, map, length, take, drop, option_copied, List, T};
+ghost use Rattle.std.specs.Prelude.{◌≡◌, ◌++◌, ◌∷◌, [], ◌+◌, ◌<◌, ◌≤◌, IfErr, IfOk, MatchOption, OnOk, map, length, take, drop, option_copied, List, T};
 ghost use Rattle.std.specs.Arc.{arc_value};
 ghost use Rattle.std.specs.FinMap.{find, put, is_sorted};
 ghost use Rattle.std.specs.declared.cmp.Ordering.{Ordering as Order};
@@ -35,6 +35,15 @@ pub trait Part<K: Ord + Clone, V: Clone>: Drop + Sized {
         requires keys { IsExact K.is_clone }
         requires values { IsExact V.is_clone }
         ensures { IfOk result (λ g. AreBlocks (put K.cmp key value (entries self.now)) (map entries (parts_of g))) };
+
+    /// Puts this value at the key in the part itself. Where the part has no room for that, the entry comes back, and
+    /// the part is as it was, as it is at an error.
+    fn insert(&mut self, alloc: Global, key: K, value: V) -> Result<Option<(K, V)>, AllocError>
+        requires keys { IsExact K.is_clone }
+        requires values { IsExact V.is_clone }
+        ensures tried { IfOk result (λ o. MatchOption o (entries self.new ≡ put K.cmp key value (entries self.old))
+            (λ e. (e ≡ (key, value)) × (entries self.new ≡ entries self.old))) }
+        ensures kept { IfErr result (λ e. entries self.new ≡ entries self.old) };
 }
 
 /// The index of the part where a key is or would be.

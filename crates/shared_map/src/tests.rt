@@ -31,6 +31,15 @@ fn filled(alloc: Global, keys: &[u64]) -> Result<SharedMap<u64, u64>, AllocError
     Ok(map)
 }
 
+/// The same map, made by changes in place.
+fn inserted(alloc: Global, keys: &[u64]) -> Result<SharedMap<u64, u64>, AllocError> {
+    let mut map = SharedMap::new();
+    for key in keys {
+        map.insert(alloc, *key, key.wrapping_mul(10))?;
+    }
+    Ok(map)
+}
+
 /// How many of the numbers from 0 up to `count` don't have ten times themselves, and how many have it twice as far.
 fn wrong(map: &SharedMap<u64, u64>, count: u64) -> u64 {
     let mut wrong = 0u64;
@@ -90,6 +99,54 @@ fn many_keys_are_kept(rt: HostRuntime) -> Result<(), Fail> {
 }
 
 #[test]
+fn insert_keeps_many_keys(rt: HostRuntime) -> Result<(), Fail> {
+    let mut keys = Vec::new(rt.alloc());
+    for i in 0..2000u64 {
+        keys.push(i)?;
+    }
+    let mut rising = inserted(rt.alloc(), &keys)?;
+    keys.reverse();
+    let falling = inserted(rt.alloc(), &keys)?;
+    keys.clear();
+    for i in 0..2000u64 {
+        keys.push(i.wrapping_mul(1789) % 2000)?;
+    }
+    let jumping = inserted(rt.alloc(), &keys)?;
+    for map in [&rising, &falling, &jumping] {
+        assert_eq!(rt; map.len(), 2000);
+        assert_eq!(rt; wrong(map, 2000), 0);
+    }
+    rising.insert(rt.alloc(), 1000, 7)?;
+    assert_eq!(rt; rising.get(&1000).copied(), Some(7));
+    assert_eq!(rt; rising.len(), 2000);
+    assert_eq!(rt; wrong(&rising, 2000), 1);
+    Ok(())
+}
+
+/// The fork shares each leaf, the last, which has room, and the first, which is full.
+#[test]
+fn insert_leaves_a_fork_as_it_was(rt: HostRuntime) -> Result<(), Fail> {
+    let mut keys = Vec::new(rt.alloc());
+    for i in 0..300u64 {
+        keys.push(i)?;
+    }
+    let mut map = inserted(rt.alloc(), &keys)?;
+    let fork = map.fork(rt.alloc())?;
+    map.insert(rt.alloc(), 299, 1)?;
+    map.insert(rt.alloc(), 300, 3000)?;
+    map.insert(rt.alloc(), 0, 1)?;
+    map.insert(rt.alloc(), 0, 2)?;
+    assert_eq!(rt; map.len(), 301);
+    assert_eq!(rt; map.get(&299).copied(), Some(1));
+    assert_eq!(rt; map.get(&300).copied(), Some(3000));
+    assert_eq!(rt; map.get(&0).copied(), Some(2));
+    assert_eq!(rt; wrong(&map, 301), 2);
+    assert_eq!(rt; fork.len(), 300);
+    assert_eq!(rt; wrong(&fork, 300), 0);
+    Ok(())
+}
+
+#[test]
 fn keys_may_be_of_any_ordered_type(rt: HostRuntime) -> Result<(), Fail> {
     let corner = Square { column: 1, row: 1 };
     let edge = Square { column: 1, row: 2 };
@@ -144,5 +201,22 @@ fn want_of_memory_leaves_the_old_map(rt: HostRuntime) -> Result<(), Fail> {
     assert_eq!(rt; wrong(&map, 70), 0);
     assert_eq!(rt; wrong(&fork, 70), 0);
     assert_eq!(rt; fork.len(), 70);
+    Ok(())
+}
+
+/// Made for a run in which one allocation fails: whichever it is, `insert` leaves the map as it was, and succeeds the
+/// second time.
+#[test]
+fn want_of_memory_leaves_the_map_itself(rt: HostRuntime) -> Result<(), Fail> {
+    let mut map = SharedMap::new();
+    for key in 0..70u64 {
+        if map.insert(rt.alloc(), key, key.wrapping_mul(10)).is_err() {
+            assert_eq!(rt; map.len(), key);
+            assert_eq!(rt; wrong(&map, key), 0);
+            map.insert(rt.alloc(), key, key.wrapping_mul(10))?;
+        }
+    }
+    assert_eq!(rt; map.len(), 70);
+    assert_eq!(rt; wrong(&map, 70), 0);
     Ok(())
 }
