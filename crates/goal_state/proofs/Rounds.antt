@@ -121,7 +121,7 @@ constant_unfolded Σ r a b us vs t x e f k y =
     ∙ sym (ap (λ o. expanded o (Named a) (unfolded_all Σ r us)) (constants_have_none Σ r a (count us)))
     ∙ ap (unfolded Σ r) e
 
-handles_counted : {H : Type 0} (means : H → Term) (hs : List H) → length hs ≡ count (terms_of (map means hs))
+pub handles_counted : {H : Type 0} (means : H → Term) (hs : List H) → length hs ≡ count (terms_of (map means hs))
 handles_counted means hs = sym (count_of_terms (map means hs) ∙ length-map hs means)
 
 pub meta_unfolded : {H : Type 0} (means : H → Term) (Σ : Metas) (r m : ℕ) (us : Terms) (vs : List H) (t x : Term) → Con (Numbered m) us ≡ t

@@ -5,5 +5,6 @@ pub mod Following
 pub mod Starting
 pub mod Answers
 pub mod Rounds
+pub mod Settling
 pub mod Laws
 pub mod Examples

@@ -1,16 +1,25 @@
-use Rattle.std.proofs.Common.{◌≡◌, ◌+◌, ◌*◌, ◌<◌, ◌≤◌, Some, None, map, length, option_map, refl, sym, ap, ap₂, ◌∙◌, arith, rules}
-use Rattle.std.proofs.lemmas.Result.{IfOk-weaker}
-use Rattle.ld_trees.specs.Term.{Head, Numbered}
+use Rattle.std.proofs.Common.{◌≡◌, ◌+◌, ◌*◌, ◌<◌, ◌≤◌, Some, None, map, length, option_map, Option, refl, sym, ap, ap₂, ◌∙◌, arith, rules}
+use Rattle.ld_trees.specs.Term.{Numbered, Term, Terms}
 use Rattle.ld_rules.specs.Expansion.{expanded}
-use Rattle.ld_terms.specs.Views.{terms_of}
-use Rattle.ld_terms.proofs.Turns.{turn, keeps_map}
-use Rattle.meta_context.specs.Stored.{metas_of}
+use Rattle.ld_terms.proofs.Turns.{keeps_map}
 use Rattle.meta_laws.specs.Unfolding.{values}
+use Rattle.ld_terms.specs.Views.{terms_of}
+use Rattle.meta_context.specs.Stored.{metas_of}
 use Rattle.goal_state.specs.Rounds.{unfolded, unfolded_all}
 use Rattle.goal_state.proofs.Means.{metas_kept, decls_held}
-use Rattle.goal_state.proofs.Rounds.{cost_kept, head_cost_kept, part_kept, unfolded_kept, constant_unfolded, meta_unfolded, with_value, without_value, value_costs, value_held, some_value_rounds, no_value_rounds}
-use Rattle.goal_state.proofs.Work.{head_work, rounds_work}
+use Rattle.goal_state.proofs.Rounds.{cost_kept, head_cost_kept, part_kept, value_costs, value_held}
+use Rattle.goal_state.proofs.Settling.{turn, table_kept, entry_made, one_entry_more, made_of, two_reached, constant_reached, meta_reached, value_reached, no_value_reached}
 use Rattle.goal_state.proofs.unfolding.+unfolding.Goals as goal
+
+pub unfold_once-returns-in_ok-insert-in-Some-settled-clause-known : goal.unfold_once-returns-in_ok-insert-in-Some-settled-clause-known
+unfold_once-returns-in_ok-insert-in-Some-settled-clause-known g t c =
+    let holds = g.T.Terms.holds in
+    let means = g.T.Terms.means in
+    let old = c.args.terms.now in
+    let new = c.unfold_node.new.terms in
+    let entry = entry_made (holds old) (means old) (holds new) (means new) c.args.metas.now c.in_ok-unfolded.ensures.kept c.requires.metas
+    c.args.h c.in_ok-unfolded.unfolded.term c.in-Some-settled.n c.args.rounds c.in_ok-unfolded.unfolded.settled c.in-Some-settled.is c.requires.term c.in_ok-unfolded.ensures.held c.in_ok-unfolded.ensures.tree in
+    one_entry_more (holds new) (means new) (metas_of (means new) c.args.metas.now) g.T.Handle.Ord.cmp c.unfold_node.new.known c.insert.new.self c.args.h c.in_ok-unfolded.unfolded.term c.in-Some-settled.n g.met.T.Terms.exact entry c.in_ok-insert-in-Some-settled.ensures.updates c.in_ok-unfolded.ensures.known
 
 pub unfold_two-unfold-requires-2 : goal.unfold_two-unfold-requires-2
 unfold_two-unfold-requires-2 g t c κs within =
@@ -22,13 +31,15 @@ unfold_two-unfold-requires-2 g t c κs within =
     let held = decls_held (holds old) (means old) (holds one) (means one) c.in_ok-a.ensures.kept c.args.metas.now c.requires.metas in
     search rules
 
-pub unfold_two-returns-clause-second : goal.unfold_two-returns-clause-second
-unfold_two-returns-clause-second g t c =
+pub unfold_two-returns-clause-trees : goal.unfold_two-returns-clause-trees
+unfold_two-returns-clause-trees g t c =
     let holds = g.T.Terms.holds in
     let means = g.T.Terms.means in
     let old = c.args.terms.now in
     let one = c.unfold.new.terms in
-    c.in_ok-b.ensures.tree ∙ unfolded_kept (holds old) (means old) (holds one) (means one) c.args.metas.now c.in_ok-a.ensures.kept c.requires.metas c.args.rounds c.args.b c.requires.second
+    let two = c.unfold-2.new.terms in
+    two_reached (holds old) (means old) (holds one) (means one) (holds two) (means two) c.args.metas.now c.in_ok-a.ensures.kept c.in_ok-b.ensures.kept c.requires.metas
+    c.args.a c.args.b c.in_ok-a.a.term c.in_ok-b.b.term c.args.rounds c.in_ok-a.a.settled c.in_ok-b.b.settled _ c.later.ensures c.requires.second c.in_ok-a.ensures.held c.in_ok-a.ensures.tree c.in_ok-b.ensures.tree
 
 pub unfold_each-unfold-requires : goal.unfold_each-unfold-requires
 unfold_each-unfold-requires g t c κs within =
@@ -49,107 +60,133 @@ unfold_each-loop-u-preserved g t c =
     let old = c.args.terms.now in
     let before = c.loop-u.terms in
     let after = c.unfold.new.terms in
-    let r = c.args.rounds in
-    let Σ = metas_of (means old) c.args.metas.now in
-    let same = metas_kept (holds old) (means old) (holds before) (means before) c.loop-u.invariant.kept c.args.metas.now c.requires.metas in
     rw c.in_ok-push.ensures.items
-    (turn (holds old) (means old) (holds before) (means before) (holds after) (means after) (unfolded_all Σ r) (unfolded Σ r) (λ us u. refl)
-    c.args.us.now c.loop-u.made.items c.loop-u.u-index c.u-item.result c.in_ok-unfold.field-0 c.loop-u.invariant c.requires.list (omega arith) c.u-item.is
-    c.in_ok-unfold.ensures.kept c.in_ok-unfold.ensures.held
-    (c.in_ok-unfold.ensures.tree ∙ ap (λ Σ. unfolded Σ r (means before c.u-item.result)) same))
-
-pub unfold-unfold_applied-requires : goal.unfold-unfold_applied-requires
-unfold-unfold_applied-requires g t c κs within =
-    let holds = g.T.Terms.holds in
-    let means = g.T.Terms.means in
-    let old = c.args.terms.now in
-    let mid = c.unfold_each-in-Meta.new.terms in
-    let kept = c.in_ok-us-in-Meta-2.ensures.kept in
-    let held = decls_held (holds old) (means old) (holds mid) (means mid) kept c.args.metas.now c.requires.metas in
-    let cost = head_cost_kept (holds old) (means old) (holds mid) (means mid) c.args.metas.now kept c.requires.metas c.args.rounds c.in-Meta.m in
-    let whole = ap (rounds_work (metas_of (means old) c.args.metas.now) c.args.rounds) c.in-Meta.ensures.tree in
-    search rules
-
-pub unfold-returns-in_ok-us-in-Const-2-clause-tree : goal.unfold-returns-in_ok-us-in-Const-2-clause-tree
-unfold-returns-in_ok-us-in-Const-2-clause-tree g t c =
-    let means = g.T.Terms.means in
-    let old = c.args.terms.now in
-    let mid = c.unfold_each.new.terms in
-    let rounds = c.args.rounds in
-    let Σ = metas_of (means old) c.args.metas.now in
-    let us = terms_of (map (means old) c.in-Const.us.now) in
-    let vs = terms_of (map (means mid) c.deref-in-Const.result.now) in
-    let made : vs ≡ unfolded_all Σ rounds us =
-    ap (λ hs. terms_of (map (means mid) hs)) c.deref-in-Const.ensures.value
-    ∙ c.in_ok-us-in-Const-2.ensures.tree
-    ∙ ap (λ hs. unfolded_all Σ rounds (terms_of (map (means old) hs))) (c.deref.ensures.value ∙ c.in_ok-us-in-Const.ensures.items)
-    in
-    IfOk-weaker c.make-in-Const.result _ _
-    (λ r e. constant_unfolded Σ rounds _ _ us vs (means old c.args.h) (means c.make-in-Const.new.self r) c.in-Const.ensures.tree c.in_ok-name-in-Const.ensures made e)
-    c.make-in-Const.ensures.tree
-
-pub unfold-returns-in_ok-us-in-Meta-2-clause-tree : goal.unfold-returns-in_ok-us-in-Meta-2-clause-tree
-unfold-returns-in_ok-us-in-Meta-2-clause-tree g t c =
-    let holds = g.T.Terms.holds in
-    let means = g.T.Terms.means in
-    let old = c.args.terms.now in
-    let mid = c.unfold_each-in-Meta.new.terms in
-    let rounds = c.args.rounds in
-    let m = c.in-Meta.m in
-    let Σ = metas_of (means old) c.args.metas.now in
-    let us = terms_of (map (means old) c.in-Meta.us.now) in
-    let vs = c.deref-in-Meta-2.result.now in
-    let made : terms_of (map (means mid) vs) ≡ unfolded_all Σ rounds us =
-    ap (λ hs. terms_of (map (means mid) hs)) c.deref-in-Meta-2.ensures.value
-    ∙ c.in_ok-us-in-Meta-2.ensures.tree
-    ∙ ap (λ hs. unfolded_all Σ rounds (terms_of (map (means old) hs))) (c.deref-in-Meta.ensures.value ∙ c.in_ok-us-in-Meta.ensures.items)
-    in
-    let same = metas_kept (holds old) (means old) (holds mid) (means mid) c.in_ok-us-in-Meta-2.ensures.kept c.args.metas.now c.requires.metas in
-    IfOk-weaker c.unfold_applied.result _ _
-    (λ r e. meta_unfolded (means mid) Σ rounds m us vs (means old c.args.h) (means c.unfold_applied.new.terms r) c.in-Meta.ensures.tree made
-    (e ∙ ap (λ Σ. expanded (values Σ rounds (Numbered m) (length vs)) (Numbered m) (terms_of (map (means mid) vs))) same))
-    c.unfold_applied.ensures.tree
-
-pub unfold_applied-returns-in-Some-clause-tree : goal.unfold_applied-returns-in-Some-clause-tree
-unfold_applied-returns-in-Some-clause-tree g t c =
-    let holds = g.T.Terms.holds in
-    let means = g.T.Terms.means in
-    let old = c.args.terms.now in
-    let mid = c.unfold_value.new.terms in
-    let us = c.args.us.now in
-    let same = ap terms_of (keeps_map (holds old) (means old) (holds mid) (means mid) us c.in_ok-value.ensures.kept c.requires.list) in
-    let value = ap (option_map (means mid)) (sym c.in-Some.is) ∙ c.in_ok-value.ensures.tree in
-    IfOk-weaker c.subst_all.result _ _
-    (λ r e. with_value _ (means mid c.in-Some.value) (Numbered c.args.m) (terms_of (map (means old) us)) (terms_of (map (means mid) us)) (means c.subst_all.new.terms r) value same e)
-    c.subst_all.ensures.tree
-
-pub unfold_applied-returns-in-None-clause-tree : goal.unfold_applied-returns-in-None-clause-tree
-unfold_applied-returns-in-None-clause-tree g t c =
-    let holds = g.T.Terms.holds in
-    let means = g.T.Terms.means in
-    let old = c.args.terms.now in
-    let mid = c.unfold_value.new.terms in
-    let us = c.args.us.now in
-    let same = ap terms_of (keeps_map (holds old) (means old) (holds mid) (means mid) us c.in_ok-value.ensures.kept c.requires.list) in
-    let value = ap (option_map (means mid)) (sym c.in-None.is) ∙ c.in_ok-value.ensures.tree in
-    IfOk-weaker c.make.result _ _
-    (λ r e. without_value _ (Numbered c.args.m) (terms_of (map (means old) us)) (terms_of (map (means mid) us)) (means c.make.new.self r) value same e)
-    c.make.ensures.tree
+    (turn (holds old) (means old) (holds before) (means before) (holds after) (means after) c.args.metas.now _ _ _ c.args.rounds
+    c.args.us.now c.loop-u.made.items c.loop-u.settled c.in_ok-unfolded.unfolded.settled _ c.loop-u.u-index c.u-item.result c.in_ok-unfolded.unfolded.term c.later-settled.ensures c.loop-u.invariant c.requires.metas c.requires.list (omega arith) c.u-item.is
+    c.in_ok-unfolded.ensures.kept c.in_ok-unfolded.ensures.held c.in_ok-unfolded.ensures.known c.in_ok-unfolded.ensures.tree)
 
 pub unfold_value-unfold-requires : goal.unfold_value-unfold-requires
 unfold_value-unfold-requires g t c κs within =
     let means = g.T.Terms.means c.args.terms.now in
     let found = sym c.value_at.ensures ∙ c.in-Some.is in
     let cost = value_costs means c.args.metas.now c.args.rounds c.args.m c.args.count c.in-Some.value (omega arith) found in
-    let held = value_held (g.T.Terms.holds c.args.terms.now) c.args.metas.now c.args.m c.args.count c.in-Some.value c.requires found in
+    let held = value_held (g.T.Terms.holds c.args.terms.now) c.args.metas.now c.args.m c.args.count c.in-Some.value c.requires.metas found in
     search rules
 
-pub unfold_value-returns-in_ok-unfold-in-Some-clause-tree : goal.unfold_value-returns-in_ok-unfold-in-Some-clause-tree
-unfold_value-returns-in_ok-unfold-in-Some-clause-tree g t c =
+pub unfold_value-returns-in_ok-unfolded-in-Some-clause-tree : goal.unfold_value-returns-in_ok-unfolded-in-Some-clause-tree
+unfold_value-returns-in_ok-unfolded-in-Some-clause-tree g t c =
     let means = g.T.Terms.means c.args.terms.now in
     let found = sym c.value_at.ensures ∙ c.in-Some.is in
-    some_value_rounds means c.args.metas.now c.args.rounds c.args.m c.args.count c.in-Some.value _ (omega arith) found c.in_ok-unfold-in-Some.ensures.tree
+    value_reached means c.args.metas.now c.args.rounds c.args.m c.args.count c.in-Some.value _ c.in_ok-unfolded-in-Some.unfolded.settled _ c.one_more.ensures (omega arith) found c.in_ok-unfolded-in-Some.ensures.tree
 
 pub unfold_value-returns-in-None-clause-tree : goal.unfold_value-returns-in-None-clause-tree
 unfold_value-returns-in-None-clause-tree g t c =
-    no_value_rounds (g.T.Terms.means c.args.terms.now) c.args.metas.now c.args.rounds c.args.m c.args.count (omega arith) (sym c.value_at.ensures ∙ c.in-None.is)
+    no_value_reached (g.T.Terms.means c.args.terms.now) c.args.metas.now c.args.rounds c.args.m c.args.count (sym c.value_at.ensures ∙ c.in-None.is)
+
+pub unfold_node-returns-in_ok-term-in-App-clause-known : goal.unfold_node-returns-in_ok-term-in-App-clause-known
+unfold_node-returns-in_ok-term-in-App-clause-known g t c =
+    let holds = g.T.Terms.holds in
+    let means = g.T.Terms.means in
+    let old = c.args.terms.now in
+    let mid = c.unfold_two.new.terms in
+    let new = c.make.new.self in
+    let decls = decls_held (holds old) (means old) (holds mid) (means mid) c.in_ok-parts-in-App.ensures.kept c.args.metas.now c.requires.metas in
+    table_kept (holds mid) (means mid) (holds new) (means new) c.args.metas.now c.in_ok-term-in-App.ensures.kept decls g.T.Handle.Ord.cmp c.unfold_two.new.known c.in_ok-parts-in-App.ensures.known
+
+pub unfold_node-returns-in_ok-term-in-Lam-clause-known : goal.unfold_node-returns-in_ok-term-in-Lam-clause-known
+unfold_node-returns-in_ok-term-in-Lam-clause-known g t c =
+    let holds = g.T.Terms.holds in
+    let means = g.T.Terms.means in
+    let old = c.args.terms.now in
+    let mid = c.unfold_two-in-Lam.new.terms in
+    let new = c.make-in-Lam.new.self in
+    let decls = decls_held (holds old) (means old) (holds mid) (means mid) c.in_ok-parts-in-Lam.ensures.kept c.args.metas.now c.requires.metas in
+    table_kept (holds mid) (means mid) (holds new) (means new) c.args.metas.now c.in_ok-term-in-Lam.ensures.kept decls g.T.Handle.Ord.cmp c.unfold_two-in-Lam.new.known c.in_ok-parts-in-Lam.ensures.known
+
+pub unfold_node-returns-in_ok-term-in-Pi-clause-known : goal.unfold_node-returns-in_ok-term-in-Pi-clause-known
+unfold_node-returns-in_ok-term-in-Pi-clause-known g t c =
+    let holds = g.T.Terms.holds in
+    let means = g.T.Terms.means in
+    let old = c.args.terms.now in
+    let mid = c.unfold_two-in-Pi.new.terms in
+    let new = c.make-in-Pi.new.self in
+    let decls = decls_held (holds old) (means old) (holds mid) (means mid) c.in_ok-parts-in-Pi.ensures.kept c.args.metas.now c.requires.metas in
+    table_kept (holds mid) (means mid) (holds new) (means new) c.args.metas.now c.in_ok-term-in-Pi.ensures.kept decls g.T.Handle.Ord.cmp c.unfold_two-in-Pi.new.known c.in_ok-parts-in-Pi.ensures.known
+
+pub unfold_node-returns-in_ok-term-in-Const-clause-known : goal.unfold_node-returns-in_ok-term-in-Const-clause-known
+unfold_node-returns-in_ok-term-in-Const-clause-known g t c =
+    let holds = g.T.Terms.holds in
+    let means = g.T.Terms.means in
+    let old = c.args.terms.now in
+    let mid = c.unfold_each.new.terms in
+    let new = c.make-in-Const.new.self in
+    let decls = decls_held (holds old) (means old) (holds mid) (means mid) c.in_ok-parts-in-Const.ensures.kept c.args.metas.now c.requires.metas in
+    table_kept (holds mid) (means mid) (holds new) (means new) c.args.metas.now c.in_ok-term-in-Const.ensures.kept decls g.T.Handle.Ord.cmp c.unfold_each.new.known c.in_ok-parts-in-Const.ensures.known
+
+pub unfold_node-returns-in_ok-term-in-Const-clause-tree : goal.unfold_node-returns-in_ok-term-in-Const-clause-tree
+unfold_node-returns-in_ok-term-in-Const-clause-tree g t c =
+    let means = g.T.Terms.means in
+    let old = c.args.terms.now in
+    let mid = c.unfold_each.new.terms in
+    let new = c.make-in-Const.new.self in
+    let r = c.args.rounds in
+    let Σ = metas_of (means old) c.args.metas.now in
+    let parts = c.in_ok-parts-in-Const.parts in
+    let us = terms_of (map (means old) c.in-Const.us.now) in
+    let given = terms_of (map (means old) c.deref.result.now) in
+    let made = terms_of (map (means mid) parts.0.items) in
+    let vs = terms_of (map (means mid) c.deref-in-Const.result.now) in
+    let reached = made_of (λ (ts : Terms). ts) (λ k. unfolded_all Σ k given) (λ k. unfolded_all Σ k us) r made vs
+    (λ k. ap (λ hs. unfolded_all Σ k (terms_of (map (means old) hs))) (sym (c.deref.ensures.value ∙ c.in_ok-us-in-Const.ensures.items)))
+    (ap (λ hs. terms_of (map (means mid) hs)) c.deref-in-Const.ensures.value) parts.1 c.in_ok-parts-in-Const.ensures.tree in
+    constant_reached Σ r parts.1 c.in-Const.name.now c.in_ok-name-in-Const.name us vs (means old c.args.h) (means new c.in_ok-term-in-Const.term)
+    c.in-Const.ensures.tree c.in_ok-name-in-Const.ensures c.in_ok-term-in-Const.ensures.tree reached
+
+pub unfold_meta-unfold_value-requires : goal.unfold_meta-unfold_value-requires
+unfold_meta-unfold_value-requires g t c κs within =
+    let holds = g.T.Terms.holds in
+    let means = g.T.Terms.means in
+    let old = c.args.terms.now in
+    let mid = c.unfold_each.new.terms in
+    let kept = c.in_ok-parts.ensures.kept in
+    let held = decls_held (holds old) (means old) (holds mid) (means mid) kept c.args.metas.now c.requires.metas in
+    let cost = head_cost_kept (holds old) (means old) (holds mid) (means mid) c.args.metas.now kept c.requires.metas c.args.rounds c.args.m in
+    search rules
+
+pub unfold_meta-returns-clause-known : goal.unfold_meta-returns-clause-known
+unfold_meta-returns-clause-known g t c =
+    let holds = g.T.Terms.holds in
+    let means = g.T.Terms.means in
+    let old = c.args.terms.now in
+    let one = c.unfold_each.new.terms in
+    let two = c.unfold_value.new.terms in
+    let new = c.applied.new.terms in
+    let ds = c.args.metas.now in
+    let first = decls_held (holds old) (means old) (holds one) (means one) c.in_ok-parts.ensures.kept ds c.requires.metas in
+    let second = decls_held (holds one) (means one) (holds two) (means two) c.in_ok-value.ensures.kept ds first in
+    table_kept (holds two) (means two) (holds new) (means new) ds c.in_ok-term.ensures.kept second g.T.Handle.Ord.cmp c.unfold_value.new.known c.in_ok-value.ensures.known
+
+pub unfold_meta-returns-clause-tree : goal.unfold_meta-returns-clause-tree
+unfold_meta-returns-clause-tree g t c =
+    let holds = g.T.Terms.holds in
+    let means = g.T.Terms.means in
+    let old = c.args.terms.now in
+    let one = c.unfold_each.new.terms in
+    let two = c.unfold_value.new.terms in
+    let new = c.applied.new.terms in
+    let ds = c.args.metas.now in
+    let r = c.args.rounds in
+    let m = c.args.m in
+    let Σ = metas_of (means old) ds in
+    let parts = c.in_ok-parts.parts in
+    let value = c.in_ok-value.value in
+    let vs = parts.0.items in
+    let us = terms_of (map (means old) c.args.us.now) in
+    let found = option_map (means two) value.0 in
+    let args = made_of (λ (ts : Terms). ts) (λ k. unfolded_all Σ k us) (λ k. unfolded_all Σ k us) r (terms_of (map (means one) vs)) (terms_of (map (means two) vs)) (λ k. refl)
+    (ap terms_of (keeps_map (holds one) (means one) (holds two) (means two) vs c.in_ok-value.ensures.kept c.in_ok-parts.ensures.held)) parts.1 c.in_ok-parts.ensures.tree in
+    let same = metas_kept (holds old) (means old) (holds one) (means one) c.in_ok-parts.ensures.kept ds c.requires.metas in
+    let valued = made_of (λ (o : Option Term). o) (λ k. values (metas_of (means one) ds) k (Numbered m) (length c.as_slice-unfolded.result.now)) (λ k. values Σ k (Numbered m) (length vs)) r found found
+    (λ k. ap₂ (λ Σ n. values Σ k (Numbered m) n) (sym same) (sym (ap length c.as_slice-unfolded.ensures.value))) refl value.1 c.in_ok-value.ensures.tree in
+    meta_reached (means two) Σ r m us vs found value.1 parts.1 c.later.result (means new c.in_ok-term.term) c.later.ensures args valued
+    (c.in_ok-term.ensures.tree ∙ ap (λ hs. expanded found (Numbered m) (terms_of (map (means two) hs))) c.as_slice-unfolded.ensures.value)
