@@ -1,0 +1,4 @@
+pub mod Rows
+pub mod Distinct
+pub mod Exact
+pub mod Hash
