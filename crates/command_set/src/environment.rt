@@ -1,6 +1,6 @@
 //! Environments of the server.
 
-ghost use Rattle.std.specs.Prelude.{◌≡◌, [], All, IfOk};
+ghost use Rattle.std.specs.Prelude.{◌≡◌, [], All, IfOk, length};
 ghost use Rattle.ld_rules.specs.Legality.{IsLegalEnvironment};
 ghost use Rattle.conversion.specs.Globals.{IsItemOf, env_of};
 ghost use Rattle.meta_context.specs.Plain.{plain_items};
@@ -64,6 +64,13 @@ impl<T: Terms + Drop> Environment<T> {
         ensures { IfOk result (λ e. e ≡ []) }
     {
         Environment::new(alloc, terms, Env::new())
+    }
+
+    /// How many items there are. Takes no memory.
+    pub fn len(&self) -> u64
+        ensures { result ≡ length self.now }
+    {
+        self.stored().items.len()
     }
 
     /// The store and the items.

@@ -13,7 +13,6 @@ mod goal_move;
 mod goal_resume;
 mod goal_start;
 mod laws;
-mod plain;
 mod proof_state;
 mod values;
 
@@ -26,7 +25,6 @@ pub use goal_move::{move_goal, print};
 pub use goal_resume::resume_goals;
 pub use goal_start::start;
 pub use laws::{printed_proofs_are_proofs, states_prove};
-pub use plain::{PlainEnvironment, PlainState};
 pub use proof_state::ProofState;
 pub use values::Program;
 

@@ -1,11 +1,15 @@
 //! The replies of commands, worked over a store.
 
-use crate::{Environment, PlainEnvironment, PlainState, Program};
+use crate::{Environment, Program, ProofState};
 use ld_terms::{List, TreeTerms};
 use repl_json::{Ask, Body, Request};
 use state_tree::{Found, Work, Worked};
 use std::alloc::{AllocError, Global};
 use std::test::Fail;
+
+type PlainEnvironment = Environment<TreeTerms>;
+
+type PlainState = ProofState<TreeTerms>;
 
 const ORDER: &[u8] =
     b"prim N : *; prim a : N(); prim b : N(); prim c : N(); prim le (x : N()) (y : N()) : *; prim trans (x : N()) (y : N()) (z : N()) (p : le(x, y)) (q : le(y, z)) : le(x, z); prim ac : le(a(), c()); prim cb : le(c(), b());";
@@ -38,7 +42,7 @@ fn work(
         one: None,
         two: None,
     };
-    Ok(Program.work(alloc, &request, &found))
+    Ok(Program::new().work(alloc, &request, &found))
 }
 
 /// The reply to a command, and nothing where memory ran out.
@@ -89,7 +93,7 @@ fn with_items(
 #[test]
 fn replies(rt: HostRuntime) -> Result<(), Fail> {
     let alloc = rt.alloc();
-    let empty = PlainEnvironment::of(Environment::empty(alloc, TreeTerms::new(alloc)?)?);
+    let empty = Environment::empty(alloc, TreeTerms::new(alloc)?)?;
     let rows: [(&[u8], &[u8]); 6] = [
         (
             b"fun (A : *) => fun (x : A) => x",
@@ -120,7 +124,7 @@ fn replies(rt: HostRuntime) -> Result<(), Fail> {
 #[test]
 fn environments(rt: HostRuntime) -> Result<(), Fail> {
     let alloc = rt.alloc();
-    let empty = PlainEnvironment::of(Environment::empty(alloc, TreeTerms::new(alloc)?)?);
+    let empty = Environment::empty(alloc, TreeTerms::new(alloc)?)?;
     let order = with_items(alloc, empty, ORDER)?;
     let found = said(alloc, &order, add(alloc, APP)?)?;
     assert!(rt; found.as_slice() == b"{\"envId\":1,\"seq\":0}".as_slice());
@@ -168,7 +172,7 @@ fn step(
         one: state,
         two: None,
     };
-    match Program.work(alloc, &request, &found) {
+    match Program::new().work(alloc, &request, &found) {
         Worked::NewState(made, body) => {
             let mut text = line(alloc, &body)?;
             text.extend_from_slice(b"0")?;
@@ -193,7 +197,7 @@ fn move_by(alloc: Global, text: &[u8]) -> Result<Ask, AllocError> {
 #[test]
 fn a_proof(rt: HostRuntime) -> Result<(), Fail> {
     let alloc = rt.alloc();
-    let empty = PlainEnvironment::of(Environment::empty(alloc, TreeTerms::new(alloc)?)?);
+    let empty = Environment::empty(alloc, TreeTerms::new(alloc)?)?;
     let start = Ask::Start {
         env: 0,
         expr: List::from_slice(alloc, b"(A : *) -> A -> A")?,

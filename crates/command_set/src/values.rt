@@ -14,76 +14,73 @@ use crate::goal_continue::continue_state;
 use crate::goal_move::{move_goal, print};
 use crate::goal_resume::resume_goals;
 use crate::goal_start::start;
-use crate::plain::{PlainEnvironment, PlainState};
 use crate::proof_state::ProofState;
-use ld_terms::TreeTerms;
+use ld_terms::Terms;
 use repl_json::{Ask, Bad, Request, bad_body};
 use state_tree::{Found, Work, Worked};
 use std::alloc::{AllocError, Global};
+use std::marker::PhantomData;
 
-/// The commands of the server over plain terms. Each value of it is the same.
+/// The commands of the server, with their terms in stores of the type `T`. Each value of it is the same.
 #[derive(Debug, Clone, Copy, PartialEq, Eq, Drop)]
-pub struct Program;
+pub struct Program<T> {
+    store: PhantomData<T>,
+}
 
-/// What the work of a request gives.
-type Given = Worked<PlainEnvironment, PlainState>;
-
-/// The same result, with the environment or the state as the server keeps it.
-fn kept(worked: Worked<Environment<TreeTerms>, ProofState<TreeTerms>>) -> Given
-    ensures { result ≡ worked }
-{
-    match worked {
-        Worked::Said(body) => Worked::Said(body),
-        Worked::NewEnv(env, body) => Worked::NewEnv(PlainEnvironment::of(env), body),
-        Worked::NewState(state, body) => Worked::NewState(PlainState::of(state), body),
-        Worked::Memory => Worked::Memory,
+impl<T> Program<T> {
+    /// The commands. Takes no memory.
+    pub fn new() -> Program<T> {
+        Program { store: PhantomData }
     }
 }
 
+/// What the work of a request gives.
+type Given<T> = Worked<Environment<T>, ProofState<T>>;
+
 /// What stands where a request has no value. No entry ever reads it.
-fn no_value(alloc: Global) -> Result<Given, AllocError>
+fn no_value<T: Terms>(alloc: Global) -> Result<Given<T>, AllocError>
     ensures { IfOk result (λ w. Gives no_value w) }
 {
     Ok(Worked::Said(bad_body(alloc, &Bad::Json)?))
 }
 
 /// A target goes on with a branch, where that was found.
-fn go_on(
+fn go_on<T: Terms + Drop>(
     alloc: Global,
-    target: &PlainState,
-    branch: &Option<PlainState>,
-) -> Result<Given, AllocError>
+    target: &ProofState<T>,
+    branch: &Option<ProofState<T>>,
+) -> Result<Given<T>, AllocError>
     ensures { IfOk result (λ w. Gives (on branch.now (λ t. continue_with target.now t)) w) }
 {
     match branch {
-        Some(branch) => Ok(kept(continue_state(alloc, &target.state, &branch.state)?)),
+        Some(branch) => continue_state(alloc, target, branch),
         None => no_value(alloc),
     }
 }
 
 /// The value of a command. Fails for want of memory alone.
 #[tactic(auto, unfolding(crate::specs::Values::value))]
-fn try_work(
+fn try_work<T: Terms + Drop>(
     alloc: Global,
     ask: &Ask,
-    found: &Found<PlainEnvironment, PlainState>,
-) -> Result<Given, AllocError>
+    found: &Found<Environment<T>, ProofState<T>>,
+) -> Result<Given<T>, AllocError>
     ensures { IfOk result (λ w. Gives (value_at value ask.now found.now) w) }
 {
     match (ask, &found.env, &found.one) {
         (Ask::Bad(bad), _, _) => Ok(Worked::Said(bad_body(alloc, bad)?)),
         (Ask::Echo { expr, fuel, .. }, Some(env), _) => {
-            Ok(Worked::Said(echo(alloc, &env.env, expr.as_slice(), *fuel)?))
+            Ok(Worked::Said(echo(alloc, env, expr.as_slice(), *fuel)?))
         }
         (Ask::EnvAdd { text, fuel, .. }, Some(env), _) => {
-            Ok(kept(add_items(alloc, &env.env, text.as_slice(), *fuel)?))
+            add_items(alloc, env, text.as_slice(), *fuel)
         }
         (Ask::EnvInspect { name, .. }, Some(env), _) => {
-            Ok(Worked::Said(inspect(alloc, &env.env, name.as_slice())?))
+            Ok(Worked::Said(inspect(alloc, env, name.as_slice())?))
         }
-        (Ask::EnvCatalog { .. }, Some(env), _) => Ok(Worked::Said(catalog(alloc, &env.env)?)),
+        (Ask::EnvCatalog { .. }, Some(env), _) => Ok(Worked::Said(catalog(alloc, env)?)),
         (Ask::Start { expr, fuel, .. }, Some(env), _) => {
-            Ok(kept(start(alloc, &env.env, expr.as_slice(), *fuel)?))
+            start(alloc, env, expr.as_slice(), *fuel)
         }
         (
             Ask::Move {
@@ -95,20 +92,20 @@ fn try_work(
             },
             _,
             Some(state),
-        ) => Ok(kept(move_goal(alloc, &state.state, *goal, text.as_slice(), *fuel, *auto)?)),
+        ) => move_goal(alloc, state, *goal, text.as_slice(), *fuel, *auto),
         (Ask::Continue { .. }, _, Some(target)) => go_on(alloc, target, &found.two),
         (Ask::Resume { goals, .. }, _, Some(state)) => {
-            Ok(kept(resume_goals(alloc, &state.state, goals.as_slice())?))
+            resume_goals(alloc, state, goals.as_slice())
         }
-        (Ask::Print { .. }, _, Some(state)) => Ok(Worked::Said(print(alloc, &state.state)?)),
+        (Ask::Print { .. }, _, Some(state)) => Ok(Worked::Said(print(alloc, state)?)),
         _ => no_value(alloc),
     }
 }
 
-impl Work for Program {
-    type Env = PlainEnvironment;
+impl<T: Terms + Drop> Work for Program<T> {
+    type Env = Environment<T>;
 
-    type State = PlainState;
+    type State = ProofState<T>;
 
     ghost value = { value };
 
@@ -116,8 +113,8 @@ impl Work for Program {
         &self,
         alloc: Global,
         request: &Request,
-        found: &Found<PlainEnvironment, PlainState>,
-    ) -> Worked<PlainEnvironment, PlainState> {
+        found: &Found<Environment<T>, ProofState<T>>,
+    ) -> Worked<Environment<T>, ProofState<T>> {
         match try_work(alloc, &request.ask, found) {
             Ok(worked) => worked,
             Err(_) => Worked::Memory,

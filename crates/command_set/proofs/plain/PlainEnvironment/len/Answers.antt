@@ -1,6 +1,0 @@
-use Rattle.std.proofs.Common.{sym, ap, ◌∙◌, length}
-use Rattle.std.proofs.lemmas.List.{length-map}
-use Rattle.command_set.proofs.plain.PlainEnvironment.len.Goals as goal
-
-pub returns : goal.returns
-returns c = rw (← c.self.view_is) (c.len.ensures.counted ∙ sym (length-map _ _) ∙ ap length c.stored.ensures.plain)
