@@ -3,6 +3,7 @@ mod Counting
 mod WholeJournal
 mod Along
 mod Accepted
+mod Left
 mod Back
 mod ByLinks
 mod Fits

@@ -1,5 +1,5 @@
 -- The parts of serving, together.
-use Rattle.std.proofs.Common.{◌≡◌, ℕ, ◌+◌, ◌<◌, ◌≤◌, false, List, [], ◌∷◌, ◌++◌, length, map, reverse, Option, None, refl, sym, ap, ◌∙◌, subst, arith, All, Contains, HoldsAt}
+use Rattle.std.proofs.Common.{◌≡◌, ℕ, ◌+◌, ◌<◌, ◌≤◌, false, List, [], ◌∷◌, ◌++◌, length, drop, map, reverse, Option, Some, None, refl, sym, ap, ◌∙◌, subst, arith, All, Contains, HoldsAt}
 use Rattle.std.proofs.lemmas.List.{append-nil, length-map, length-reverse, reverse-reverse}
 use Rattle.repl_json.specs.declared.request.Ask.{Ask}
 use Rattle.state_tree.specs.declared.work.Found.{Found}
@@ -10,13 +10,14 @@ use Rattle.shared_board.specs.Boards.{BoardMeaning, BoardPassMeaning, IsBoardPas
 use Rattle.shared_board.specs.Closing.{numbers_of, NotesAreLearnt, IsClosedJournal, IsLastPass}
 use Rattle.link_server.specs.Links.{Telling, served_as}
 use Rattle.link_server.specs.Seats.{AcceptingMeaning, AreServed, served_at}
-use Rattle.link_server.specs.Served.{AreNewPasses, FitsLinks, HasServed}
+use Rattle.link_server.specs.Served.{AreNewPasses, FitsLinks, HasServed, LeavesOthers}
 use Rattle.link_server.specs.declared.seat.Seat.{Seat}
 use Rattle.link_server.specs.declared.served.Served.{Served}
 use Rattle.link_server.proofs.Accepted.{AreInOrder, in_order}
 use Rattle.link_server.proofs.Back.{seated, own_back, numbers_back, notes_back, paired_length, counted_back}
 use Rattle.link_server.proofs.ByLinks.{by_links}
 use Rattle.link_server.proofs.Leaves.{fits_links, has_served}
+use Rattle.link_server.proofs.Left.{left_others}
 
 module _ {E S : Type 0} (V : Ask → Found E S → Value E S) (board : BoardMeaning E) where
   -- the passes of a new board, turned round
@@ -42,6 +43,7 @@ module _ {E S : Type 0} (V : Ask → Found E S → Value E S) (board : BoardMean
       pub fits : (journal : List Entry) (last : BoardPassMeaning E) → IsLegal V board.lock.the_ground.book journal → length journal ≤ board.lock.the_ground.entries
           → IsClosedJournal board back journal → IsLastPass board back journal last → FitsLinks V board.lock.the_ground old.doors.links (map (served_as tell) served) journal last
       pub counts : old.failed ≡ false → HasServed board.passes old.doors new.doors (length served) new.failed
+      pub left : LeavesOthers board.passes (length served) old.doors new.doors
       pub few : length served ≤ board.passes
       pub address : new.doors.address ≡ old.doors.address
       pub later : old.doors.faults ≤ new.doors.faults
@@ -85,6 +87,17 @@ module _ {E S : Type 0} (V : Ask → Found E S → Value E S) (board : BoardMean
         served_long : length order.added ≡ length served
         served_long = sym (length-map order.added served_at) ∙ ap length served_same
 
+        left_served : LeavesOthers board.passes (length served) old.doors new.doors
+        left_served calm inputs told =
+            let ran_all = subst (λ (none : List (Seat W I O E S)). AreServed V board tell old new none more) unseated ran in
+            let a = served_count in
+            let b = served_long in
+            let c = sym (length-reverse more) ∙ ap length added_is in
+            let after = left_others V board tell ran_all (λ waits. calm (omega arith)) inputs told in
+            let counted = after.1 in
+            let same : after.0 ≡ length served = omega arith in
+            after.2 ∙ ap (λ (n : ℕ). Some (drop n inputs)) same
+
         fits_served : (journal : List Entry) (last : BoardPassMeaning E) → IsLegal V board.lock.the_ground.book journal → length journal ≤ board.lock.the_ground.entries
             → IsClosedJournal board back journal → IsLastPass board back journal last → FitsLinks V board.lock.the_ground old.doors.links (map (served_as tell) served) journal last
         fits_served journal last legal room closed at_last =
@@ -101,6 +114,7 @@ module _ {E S : Type 0} (V : Ask → Found E S → Value E S) (board : BoardMean
           notes = subst NotesAreLearnt back_same (notes_back V board tell old.waiting new.waiting order.passes order.added old.doors.links fresh order.waiting order.paired);
           fits = fits_served;
           counts = λ unfailed. subst (λ (n : ℕ). HasServed board.passes old.doors new.doors n new.failed) served_long (has_served V board tell board.passes old new [] more order fresh.count unfailed);
+          left = left_served;
           few = let a = served_count in let b = served_long in omega arith;
           address = order.address;
           later = order.later;

@@ -1,5 +1,5 @@
 -- What serving links over the tree of a board leaves.
-use Rattle.std.specs.Prelude.{◌≡◌, ◌<◌, ◌≤◌, ◌^◌, ◌⊎◌, ℕ, Bool, true, false, List, [], length, sum_by, reverse, All, HoldsAt, Option}
+use Rattle.std.specs.Prelude.{◌≡◌, ◌<◌, ◌≤◌, ◌^◌, ◌⊎◌, ℕ, Bool, true, false, List, [], length, sum_by, drop, reverse, All, HoldsAt, Option, Some}
 use Rattle.repl_json.specs.declared.request.Ask.{Ask}
 use Rattle.pan_io.specs.Faults.{Rose}
 use Rattle.state_tree.specs.declared.work.Found.{Found}
@@ -17,6 +17,12 @@ use Rattle.link_server.specs.Links.{ServedMeaning, IsServedLink}
 -- How many links were served: as many as there were places for, or fewer, since the doors failed, which their count shows.
 abbrev pub HasServed : ℕ → DoorsMeaning → DoorsMeaning → ℕ → Bool → Type 0
 HasServed places old new count failed = ((count ≡ places) × (failed ≡ false)) ⊎ ((count < places) × (failed ≡ true) × RoseAtDoors places old new)
+
+-- Where the doors tell their links, those are left that stand behind the ones that were served: no other was taken. Where fewer were served than
+-- there were places for, this is said only where the count of the doors didn't rise: behind a fault nothing is said of which links are left. An
+-- accept for want of a link lets the count stay, so then all links that were told were served.
+abbrev pub LeavesOthers : ℕ → ℕ → DoorsMeaning → DoorsMeaning → Type 0
+LeavesOthers places count old new = (count < places → ¬ Rose old.faults new.faults) → (inputs : List (List ℕ)) → old.links ≡ Some inputs → new.links ≡ Some (drop count inputs)
 
 module _ {E S : Type 0} (V : Ask → Found E S → Value E S) where
   -- these are the passes of a board over a tree without entries, of which pass 0 is the last

@@ -13,7 +13,9 @@ pub struct Served<I, O> {
     pub pass: u32,
     /// How its session ended.
     pub end: End,
+    /// Its input: what the session left of it.
     pub input: I,
+    /// Its output: what the session wrote to it.
     pub output: O,
 }
 

@@ -6,7 +6,7 @@ ghost use Rattle.shared_board.specs.Boards.{IsBoardPassOf};
 ghost use Rattle.shared_board.specs.Closing.{numbers_of, NotesAreLearnt, IsClosedJournal, IsLastPass};
 ghost use Rattle.link_server.specs.Doors.{DoorsMeaning};
 ghost use Rattle.link_server.specs.Links.{Telling, served_as};
-ghost use Rattle.link_server.specs.Served.{AreNewPasses, HasServed, FitsLinks, CompletesSessions};
+ghost use Rattle.link_server.specs.Served.{AreNewPasses, HasServed, LeavesOthers, FitsLinks, CompletesSessions};
 
 use crate::links::{Accepted, accept_links};
 use crate::seat::{Hall, Seat, clear_seats, put_back};
@@ -116,8 +116,10 @@ fn close_board<W: Work, I: Drop, O: Drop>(
 /// Accepts a link for each place, and serves it over the tree that all of them share.
 ///
 /// Each session is started when its link is accepted, on a thread of its own, and runs on the caller's where no thread can be made: then
-/// after those that follow. After a fault of the doors no more links are accepted. When all sessions have ended, the board is closed. It may
-/// wait, for links and for turns. The sessions want memory for their work; serving wants none beside.
+/// after those that follow. After a fault of the doors no more links are accepted, and the sessions that run go on to their ends. When all
+/// have ended, the board is closed. It may wait, for links and for turns. The sessions want memory for their work; serving wants none beside.
+///
+/// `workers`, 1 to 64, is how many make the requests of one line ready, for each session by itself.
 pub fn serve_links<R: Threads + Wait + Sync, W: Work + Sync, D: Doors, G: Gate>(
     rt: &R,
     alloc: Global,
@@ -139,6 +141,10 @@ where
         (record { links = D.links doors.old; address = D.listens_on doors.old; faults = D.faults doors.old })
         (record { links = D.links doors.new; address = D.listens_on doors.new; faults = D.faults doors.new })
         (vec_len result.served) result.failed }
+    // No link is taken but those that are served.
+    ensures left { LeavesOthers places.board.passes (vec_len result.served)
+        (record { links = D.links doors.old; address = D.listens_on doors.old; faults = D.faults doors.old })
+        (record { links = D.links doors.new; address = D.listens_on doors.new; faults = D.faults doors.new }) }
     // The journal is one legal history, which each link that was served fits.
     ensures fits { FitsLinks W.value places.board.lock.the_ground
         (D.links doors.old)

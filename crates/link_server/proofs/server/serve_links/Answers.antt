@@ -51,6 +51,16 @@ returns-clause-count g c =
     let long : length c.clear_seats.new.served.items ≡ c.close_board.result.served.len = sym (ap length served) ∙ sym c.close_board.result.served.ok.0 in
     rw (← long, c.close_board.ensures.failed) (o.counts refl)
 
+pub returns-clause-left : goal.returns-clause-left
+returns-clause-left g c =
+    let places = c.args.places in
+    let tell : Telling g.row.D-In.Denot g.row.D-Out.Denot = record { left = g.D.In.Source.left; input_faults = g.D.In.Source.faults; taken = g.D.Out.Sink.taken; output_faults = g.D.Out.Sink.faults } in
+    let o = over g.W.Work.value places.board tell _ _ _ _ places.unseated c.accept_links-waiting.ensures.served c.requires.passes _ _ _ _ _ places.none_back places.none_served
+    c.clear_seats.ensures.passes c.put_back.ensures.passes c.clear_seats.ensures.served in
+    let served = ap (λ v. v.items) c.close_board.ensures.served in
+    let long : length c.clear_seats.new.served.items ≡ c.close_board.result.served.len = sym (ap length served) ∙ sym c.close_board.result.served.ok.0 in
+    rw (← long) o.left
+
 pub returns-clause-fits : goal.returns-clause-fits
 returns-clause-fits g c =
     let places = c.args.places in
