@@ -3,15 +3,20 @@ use Rattle.std.proofs.Common.{◌≡◌, ℕ, ◌≤◌, inl, inr, Bool, true, f
 use Rattle.std.specs.Prelude.{is_some, option_map}
 use Rattle.std.proofs.KnownBytes.{Appends-nil, Appends-trans}
 use Rattle.std.specs.Io.KnownBytes.{Appends, Keeps}
+use Rattle.term_syntax.specs.Lex.{Text}
 use Rattle.pan_io.specs.Books.{NamedBytes}
+use Rattle.pan_io.specs.Doors.{ListensOn}
 use Rattle.pan_io.specs.Faults.{Rose}
 use Rattle.command_line.specs.Form.{Command}
 use Rattle.state_tree.specs.declared.work.Entry.{Entry}
+use Rattle.shared_board.specs.Boards.{BoardPassMeaning}
 use Rattle.session_server.specs.declared.run.End.{End}
+use Rattle.link_server.specs.Doors.{DoorsMeaning}
 use Rattle.link_server.specs.Links.{ServedMeaning}
+use Rattle.panto_cli.specs.Books.{Items}
 use Rattle.panto_cli.specs.Ends.{Counted}
 use Rattle.panto_cli.specs.Links.{outcome_of_links}
-use Rattle.panto_cli.specs.Notes.{Noted}
+use Rattle.panto_cli.specs.Notes.{Noted, address_of}
 use Rattle.panto_cli.specs.Outcomes.{status_in, line_of}
 use Rattle.panto_cli.specs.Serve.{Given, IsStatusLine, IsNoted, HasHeard, AreNotes, listening_line}
 use Rattle.panto_cli.specs.Serving.{Hears, EndsServing}
@@ -31,57 +36,68 @@ nothing_kept (Some xs) None k = absurd k
 nothing_kept (Some xs) (Some ys) k = k ∙ sym (append-nil xs)
 
 -- the notes took nothing, where no board was opened
-pub silent : {V : Type 0} (journal : Option V) (items : V → List Entry) (served : List ServedMeaning) (status : Status) (told : Bool) (notes : Option (List ℕ)) (faults : ℕ)
-    → journal ≡ None → told ≡ true → HasHeard (option_map items journal) served status told notes notes faults faults
-silent {V} journal items served status told notes faults none is =
-    subst (λ (t : Bool). HasHeard (option_map items journal) served status t notes notes faults faults) (sym is)
-    (subst (λ (j : Option V). HasHeard (option_map items j) served status true notes notes faults faults) (sym none) ([], refl, Appends-nil notes))
+pub silent : {V : Type 0} (journal : Option V) (items : V → List Entry) (listen : Text) (doors after : DoorsMeaning) (served : List ServedMeaning) (last : Option (BoardPassMeaning Items))
+    (status : Status) (told : Bool) (notes : Option (List ℕ)) (faults : ℕ) → journal ≡ None → told ≡ true
+    → HasHeard listen (record { doors = doors; after = after; served = served; journal = option_map items journal; last = last }) status told notes notes faults faults
+silent {V} journal items listen doors after served last status told notes faults none is =
+    subst (λ (t : Bool). HasHeard listen (record { doors = doors; after = after; served = served; journal = option_map items journal; last = last }) status t notes notes faults faults) (sym is)
+    (subst (λ (j : Option V). HasHeard listen (record { doors = doors; after = after; served = served; journal = option_map items j; last = last }) status true notes notes faults faults) (sym none)
+    ([], refl, Appends-nil notes))
 
 -- the notes took the line of the doors, where a board was opened
-heard_so : (journal : List Entry) (served : List ServedMeaning) (status : Status) (told : Bool) (unserved : Type 0) (notes notes' : Option (List ℕ)) (faults faults' : ℕ)
-    → Hears told unserved notes notes' faults faults' → (unserved → (served ≡ []) × (status ≡ OpenFault)) → HasHeard (Some journal) served status told notes notes' faults faults'
-heard_so journal served status true unserved notes notes' faults faults' (inl line) why = (listening_line, inl (sym (append-nil listening_line)), line)
-heard_so journal served status true unserved notes notes' faults faults' (inr kept) why =
+heard_so : (listen : Text) (given : Given) (journal : List Entry) (status : Status) (told : Bool) (unserved : Type 0) (notes notes' : Option (List ℕ)) (faults faults' : ℕ)
+    → given.journal ≡ Some journal → Hears told (ListensOn given.after.address listen) unserved notes notes' faults faults'
+    → (unserved → (given.served ≡ []) × (status ≡ OpenFault) × Rose given.doors.faults given.after.faults) → HasHeard listen given status told notes notes' faults faults'
+heard_so listen given journal status true unserved notes notes' faults faults' is (inl line) why = (
+  listening_line,
+  subst (λ (j : Option (List Entry)). IsNoted listen given j status [] listening_line) (sym is) (inl (sym (append-nil listening_line), line.1)),
+  line.0,
+)
+heard_so listen given journal status true unserved notes notes' faults faults' is (inr kept) why =
     let none = why kept.1 in
-    ([], inr (refl, none.0, none.1), nothing_kept notes notes' kept.0)
-heard_so journal served status false unserved notes notes' faults faults' cut why = (refl, cut.0, cut.1)
+    ([], subst (λ (j : Option (List Entry)). IsNoted listen given j status [] []) (sym is) (inr (refl, none.0, none.1, none.2)), nothing_kept notes notes' kept.0)
+heard_so listen given journal status false unserved notes notes' faults faults' is cut why = (ap is_some is, cut.0, cut.1, cut.2)
 
-pub heard_closed : {A : Type 0} (as_meant : A → ServedMeaning) (served : List A) (journal : List Entry) (o : Outcome) (failed told : Bool) (ends : List End)
-    (notes notes' : Option (List ℕ)) (faults faults' : ℕ) → Hears told ((served ≡ []) × (failed ≡ true)) notes notes' faults faults' → o ≡ outcome_of_links failed ends
-    → HasHeard (Some journal) (map as_meant served) (status_in o) told notes notes' faults faults'
-heard_closed as_meant served journal o failed told ends notes notes' faults faults' heard is =
-    heard_so journal (map as_meant served) (status_in o) told ((served ≡ []) × (failed ≡ true)) notes notes' faults faults' heard
-    (λ none. (ap (λ xs. map as_meant xs) none.0, ap status_in is ∙ ap (λ (f : Bool). status_in (outcome_of_links f ends)) none.1))
+pub heard_closed : {A : Type 0} (as_meant : A → ServedMeaning) (served : List A) (journal : List Entry) (listen : Text) (doors after : DoorsMeaning) (last : Option (BoardPassMeaning Items))
+    (o : Outcome) (failed told : Bool) (ends : List End) (notes notes' : Option (List ℕ)) (faults faults' : ℕ)
+    → Hears told (ListensOn after.address listen) ((served ≡ []) × (failed ≡ true) × Rose doors.faults after.faults) notes notes' faults faults' → o ≡ outcome_of_links failed ends
+    → HasHeard listen (record { doors = doors; after = after; served = map as_meant served; journal = Some journal; last = last }) (status_in o) told notes notes' faults faults'
+heard_closed as_meant served journal listen doors after last o failed told ends notes notes' faults faults' heard is =
+    heard_so listen (record { doors = doors; after = after; served = map as_meant served; journal = Some journal; last = last }) journal (status_in o) told
+    ((served ≡ []) × (failed ≡ true) × Rose doors.faults after.faults) notes notes' faults faults' refl heard
+    (λ none. (ap (λ xs. map as_meant xs) none.0, ap status_in is ∙ ap (λ (f : Bool). status_in (outcome_of_links f ends)) none.1, none.2))
 
 -- the line of the status follows
-noted_then : (journal : Option (List Entry)) (served : List ServedMeaning) (status : Status) (text line : List ℕ) → IsNoted journal served status [] text → IsNoted journal served status line (text ++ line)
-noted_then None served status text line is = ap (λ (t : List ℕ). t ++ line) is
-noted_then (Some journal) served status text line (inl is) = inl (ap (λ (t : List ℕ). t ++ line) (is ∙ append-nil listening_line))
-noted_then (Some journal) served status text line (inr h) = inr (ap (λ (t : List ℕ). t ++ line) h.0, h.1, h.2)
+noted_then : (listen : Text) (given : Given) (journal : Option (List Entry)) (status : Status) (text line : List ℕ) → IsNoted listen given journal status [] text
+    → IsNoted listen given journal status line (text ++ line)
+noted_then listen given None status text line is = ap (λ (t : List ℕ). t ++ line) is
+noted_then listen given (Some journal) status text line (inl h) = inl (ap (λ (t : List ℕ). t ++ line) (h.0 ∙ append-nil listening_line), h.1)
+noted_then listen given (Some journal) status text line (inr h) = inr (ap (λ (t : List ℕ). t ++ line) h.0, h.1, h.2, h.3)
 
-noted_cut : (journal : Option (List Entry)) (served : List ServedMeaning) (status : Status) (line : List ℕ) → is_some journal ≡ true → IsNoted journal served status line (listening_line ++ line)
-noted_cut None served status line e = absurd cc
-noted_cut (Some journal) served status line e = inl refl
+noted_cut : (listen : Text) (given : Given) (journal : Option (List Entry)) (status : Status) (line : List ℕ) → is_some journal ≡ true → ListensOn given.after.address listen
+    → IsNoted listen given journal status line (listening_line ++ line)
+noted_cut listen given None status line e listens = absurd cc
+noted_cut listen given (Some journal) status line e listens = inl (refl, listens)
 
 module _ (books : Option (List NamedBytes)) (form : Option Command) (given : Given) (status : Status) (line : List ℕ) (is : IsStatusLine books form given.journal status line) where
   -- the line of the status was written behind what the notes had taken
-  told_end : (notes middle last : Option (List ℕ)) (faults between after : ℕ) → HasHeard given.journal given.served status true notes middle faults between
+  told_end : (notes middle last : Option (List ℕ)) (faults between after : ℕ) → HasHeard (address_of form) given status true notes middle faults between
       → faults ≤ between → Noted middle last between after line → (text : List ℕ) × AreNotes books form given status text × Noted notes last faults after text
   told_end notes middle last faults between after heard later (inl took) =
-      (heard.0 ++ line, (line, is, noted_then given.journal given.served status heard.0 line heard.1), inl (Appends-trans notes middle last heard.0 line heard.2 took))
+      (heard.0 ++ line, (line, is, noted_then (address_of form) given given.journal status heard.0 line heard.1), inl (Appends-trans notes middle last heard.0 line heard.2 took))
   told_end notes middle last faults between after heard later (inr cut) = (
     heard.0 ++ line,
-    (line, is, noted_then given.journal given.served status heard.0 line heard.1),
+    (line, is, noted_then (address_of form) given given.journal status heard.0 line heard.1),
     inr (rose_later faults between after later cut.0, behind_first notes middle last heard.0 line heard.2 cut.1),
   )
 
   -- it was not written
-  cut_end : (notes last : Option (List ℕ)) (faults after : ℕ) → HasHeard given.journal given.served status false notes last faults after
+  cut_end : (notes last : Option (List ℕ)) (faults after : ℕ) → HasHeard (address_of form) given status false notes last faults after
       → (text : List ℕ) × AreNotes books form given status text × Noted notes last faults after text
   cut_end notes last faults after heard =
-      (listening_line ++ line, (line, is, noted_cut given.journal given.served status line heard.0), inr (heard.1, of_both notes last listening_line line heard.2))
+      (listening_line ++ line, (line, is, noted_cut (address_of form) given given.journal status line heard.0 heard.1), inr (heard.2, of_both notes last listening_line line heard.3))
 
-  noted_end : (told : Bool) (notes middle last : Option (List ℕ)) (faults between after : ℕ) → HasHeard given.journal given.served status told notes middle faults between
+  noted_end : (told : Bool) (notes middle last : Option (List ℕ)) (faults between after : ℕ) → HasHeard (address_of form) given status told notes middle faults between
       → faults ≤ between → (told ≡ true → Noted middle last between after line) → (told ≡ false → last ≡ middle) → (told ≡ false → after ≡ between)
       → (text : List ℕ) × AreNotes books form given status text × Noted notes last faults after text
   noted_end true notes middle last faults between after heard later took same same_count = told_end notes middle last faults between after heard later (took refl)
@@ -91,7 +107,7 @@ module _ (books : Option (List NamedBytes)) (form : Option Command) (given : Giv
 
 pub noted_so : {books : Option (List NamedBytes)} {form : Option Command} {shelf : Counted} {given : Given} {o : Outcome} → EndsServing books form shelf given o
     → (status : Status) → status ≡ status_in o → (told : Bool) (notes middle last : Option (List ℕ)) (faults between after : ℕ)
-    → HasHeard given.journal given.served (status_in o) told notes middle faults between → faults ≤ between → (told ≡ true → Noted middle last between after (line_of o))
+    → HasHeard (address_of form) given (status_in o) told notes middle faults between → faults ≤ between → (told ≡ true → Noted middle last between after (line_of o))
     → (told ≡ false → last ≡ middle) → (told ≡ false → after ≡ between)
     → (text : List ℕ) × AreNotes books form given status text × Noted notes last faults after text
 noted_so {books} {form} {shelf} {given} {o} ends status is told notes middle last faults between after heard later took same same_count =

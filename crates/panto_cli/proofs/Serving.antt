@@ -120,6 +120,7 @@ module _ (books : Option (List NamedBytes)) (file : Option Text) (listen : Text)
       sound = proofs_over books file items accepts journal;
       room = closed.fits.room;
       listens = closed.listens;
+      left = closed.left;
       served = closed.fits.each;
       by_links = closed.fits.by_links;
       seen = closed.fits.seen;

@@ -19,6 +19,14 @@ file_of (Some (serve listen book entries workers sessions)) = book
 file_of (Some (check file)) = Some file
 file_of (Some (demo seed count)) = None
 
+-- the address that the words of many links name
+abbrev pub address_of : Option Command → Text
+address_of None = []
+address_of (Some (run book entries workers)) = []
+address_of (Some (serve listen book entries workers sessions)) = listen
+address_of (Some (check file)) = []
+address_of (Some (demo seed count)) = []
+
 -- how many entries the words leave room for
 abbrev pub entries_of : Option Command → ℕ
 entries_of None = 0

@@ -17,11 +17,11 @@ use Rattle.shared_board.specs.Boards.{BoardPassMeaning}
 use Rattle.session_server.specs.Input.{requests_of_input}
 use Rattle.link_server.specs.Doors.{DoorsMeaning, RoseAtDoors}
 use Rattle.link_server.specs.Links.{ServedMeaning, IsServedLink}
-use Rattle.link_server.specs.Served.{AreCalm}
+use Rattle.link_server.specs.Served.{AreCalm, LeavesOthers}
 use Rattle.panto_cli.specs.Books.{Items, Accepts, Refuses, IsTold, IsOpenFault}
 use Rattle.panto_cli.specs.Ends.{Counted, HasRisen}
 use Rattle.panto_cli.specs.Links.{ground_of, first_end}
-use Rattle.panto_cli.specs.Notes.{IsNote, file_of, entries_of}
+use Rattle.panto_cli.specs.Notes.{IsNote, file_of, address_of, entries_of}
 use Rattle.panto_cli.specs.Run.{Completed}
 use Rattle.panto_cli.specs.Status.{status_of}
 use Rattle.panto_cli.specs.declared.status.Status.{Status}
@@ -63,13 +63,14 @@ IsNamedBy sessions given status =
     ⊎ ((length given.served < sessions) × (status ≡ OpenFault) × RoseAtDoors sessions given.doors given.after)
 
 -- The journal is a legal history over the book, and each reply in it that prints a state as solved shows a proof. The doors listened on the
--- address of the words, or their count rose. Each link that was served fits the journal, and each entry has the pass of one. The last pass has
--- seen the whole journal.
+-- address of the words, or their count rose. Each link that was served fits the journal, and each entry has the pass of one. No link was taken
+-- but those that were served. The last pass has seen the whole journal.
 pub record ServesOver (items : Items) (listen : Text) (entries sessions : ℕ) (given : Given) (journal : List Entry) (last : BoardPassMeaning Items) (status : Status) : Type 0 where
   pub legal : IsLegal {S = State} value items journal
   pub sound : AllPrintSoundly items journal
   pub room : length journal ≤ entries
-  pub listens : RoseAtDoors sessions given.doors given.after ⊎ ListensOn given.after.address listen
+  pub listens : Rose given.doors.faults given.after.faults ⊎ ListensOn given.after.address listen
+  pub left : LeavesOthers sessions (length given.served) given.doors given.after
   pub served : (place : ℕ) → place < length given.served → HoldsAt (IsServedLink {S = State} value (ground_of items entries) given.doors.links journal last.found place) given.served place
   pub by_links : All (λ entry. entry.pass < length given.served) journal
   pub seen : last.seen ≡ journal
@@ -114,19 +115,22 @@ abbrev pub IsStatusLine : Option (List NamedBytes) → Option Command → Option
 IsStatusLine books form (Some journal) OpenFault line = line ≡ codes "panto: door fault\n"
 IsStatusLine books form journal status line = IsNote books (file_of form) (entries_of form) status line
 
--- The notes: that panto listens, once it does, and the line of the status. It doesn't listen where no board was opened, and may not where
--- the doors failed before the first link.
-abbrev pub IsNoted : Option (List Entry) → List ServedMeaning → Status → List ℕ → List ℕ → Type 0
-IsNoted None served status line text = text ≡ line
-IsNoted (Some journal) served status line text = (text ≡ listening_line ++ line) ⊎ ((text ≡ line) × (served ≡ []) × (status ≡ OpenFault))
+-- The notes: that panto listens, and the line of the status. It doesn't listen where no board was opened. Where one was, the first line is
+-- written only where the doors listen on this address, and is left out only where their count rose and no link was served.
+abbrev pub IsNoted : Text → Given → Option (List Entry) → Status → List ℕ → List ℕ → Type 0
+IsNoted listen given None status line text = text ≡ line
+IsNoted listen given (Some journal) status line text =
+    ((text ≡ listening_line ++ line) × ListensOn given.after.address listen)
+    ⊎ ((text ≡ line) × (given.served ≡ []) × (status ≡ OpenFault) × Rose given.doors.faults given.after.faults)
 
 -- what the notes took before the line of the status, and whether they took all of it; the line was not written where they didn't
-abbrev pub HasHeard : Option (List Entry) → List ServedMeaning → Status → Bool → Option (List ℕ) → Option (List ℕ) → ℕ → ℕ → Type 0
-HasHeard journal served status true notes notes' faults faults' = (text : List ℕ) × IsNoted journal served status [] text × Appends notes notes' text
-HasHeard journal served status false notes notes' faults faults' = (is_some journal ≡ true) × Rose faults faults' × AppendsPrefix notes notes' listening_line
+abbrev pub HasHeard : Text → Given → Status → Bool → Option (List ℕ) → Option (List ℕ) → ℕ → ℕ → Type 0
+HasHeard listen given status true notes notes' faults faults' = (text : List ℕ) × IsNoted listen given given.journal status [] text × Appends notes notes' text
+HasHeard listen given status false notes notes' faults faults' =
+    (is_some given.journal ≡ true) × ListensOn given.after.address listen × Rose faults faults' × AppendsPrefix notes notes' listening_line
 
 abbrev pub AreNotes : Option (List NamedBytes) → Option Command → Given → Status → List ℕ → Type 0
-AreNotes books form given status text = (line : List ℕ) × IsStatusLine books form given.journal status line × IsNoted given.journal given.served status line text
+AreNotes books form given status text = (line : List ℕ) × IsStatusLine books form given.journal status line × IsNoted (address_of form) given given.journal status line text
 
 -- ---- completeness
 

@@ -12,9 +12,9 @@ use Rattle.command_set.specs.Values.{value}
 use Rattle.state_tree.specs.declared.work.Entry.{Entry}
 use Rattle.shared_board.specs.declared.board_tree.TreeGround.{TreeGround}
 use Rattle.shared_board.specs.Boards.{BoardPassMeaning}
-use Rattle.link_server.specs.Doors.{DoorsMeaning, RoseAtDoors}
+use Rattle.link_server.specs.Doors.{DoorsMeaning}
 use Rattle.link_server.specs.Links.{ServedMeaning}
-use Rattle.link_server.specs.Served.{HasServed, FitsLinks, CompletesSessions}
+use Rattle.link_server.specs.Served.{HasServed, LeavesOthers, FitsLinks, CompletesSessions}
 use Rattle.panto_cli.specs.Books.{Items}
 use Rattle.panto_cli.specs.Ends.{Counted}
 use Rattle.panto_cli.specs.Outcomes.{status_in, line_of}
@@ -29,13 +29,14 @@ IsPlan entries workers sessions = (0 < entries) × (entries ≤ 1048576) × (0 <
 pub record IsClosedBoard (the_ground : TreeGround Items) (listen : Text) (sessions : ℕ) (old new : DoorsMeaning) (served : List ServedMeaning) (failed : Bool) (journal : List Entry) (last : BoardPassMeaning Items) : Type 0 where
   pub fits : FitsLinks {S = State} value the_ground old.links served journal last
   pub count : HasServed sessions old new (length served) failed
-  pub listens : RoseAtDoors sessions old new ⊎ ListensOn new.address listen
+  pub left : LeavesOthers sessions (length served) old new
+  pub listens : Rose old.faults new.faults ⊎ ListensOn new.address listen
   pub complete : (inputs : List (List ℕ)) → old.links ≡ Some inputs → CompletesSessions the_ground.entries (take sessions inputs) served last.found
 
--- what the notes took while the doors were opened, where no link was served if this is so
-abbrev pub Hears : Bool → Type 0 → Option (List ℕ) → Option (List ℕ) → ℕ → ℕ → Type 0
-Hears true unserved notes notes' faults faults' = Appends notes notes' listening_line ⊎ (Keeps notes notes' × unserved)
-Hears false unserved notes notes' faults faults' = Rose faults faults' × AppendsPrefix notes notes' listening_line
+-- What the notes took while the doors were opened: the line, and the doors listen if this is so, or nothing, and no link was served if that is so.
+abbrev pub Hears : Bool → Type 0 → Type 0 → Option (List ℕ) → Option (List ℕ) → ℕ → ℕ → Type 0
+Hears true listens unserved notes notes' faults faults' = (Appends notes notes' listening_line × listens) ⊎ (Keeps notes notes' × unserved)
+Hears false listens unserved notes notes' faults faults' = listens × Rose faults faults' × AppendsPrefix notes notes' listening_line
 
 -- how serving ended: its clauses as one statement
 pub record EndsServing (books : Option (List NamedBytes)) (form : Option Command) (shelf : Counted) (given : Given) (outcome : Outcome) : Type 0 where

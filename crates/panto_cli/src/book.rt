@@ -10,9 +10,10 @@ ghost use Rattle.command_set.specs.Shown.{IsShownFault};
 ghost use Rattle.panto_cli.specs.Books as spec;
 ghost use Rattle.panto_cli.specs.Books.{Items, book_of, IsText, IsLongText, IsOpenFault, IsRefused, IsNoBook, Accepts};
 
+use crate::store::Store;
 use book_reader::BookFault;
-use command_set::{Environment, PlainEnvironment, book_members};
-use ld_terms::{Terms, TreeTerms};
+use command_set::{Environment, book_members};
+use ld_terms::Terms;
 use meta_context::Env;
 use pan_io::{Shelf, Unread};
 use std::alloc::{AllocError, Global};
@@ -101,12 +102,12 @@ fn items_of<T: Terms + Drop>(
 }
 
 /// The environment that a text makes, or why it makes none.
-fn environment_of(alloc: Global, text: &[u8]) -> Result<PlainEnvironment, NoBook>
+fn environment_of(alloc: Global, text: &[u8]) -> Result<Environment<Store>, NoBook>
     ensures accepted { IfOk result (λ e. book_of text.now ≡ Ok e) }
     ensures refused { IfErr result (IsRefused (book_of text.now)) }
 {
-    let terms = TreeTerms::new(alloc)?;
-    Ok(PlainEnvironment::of(items_of(alloc, terms, text)?))
+    let terms = Store::new(alloc)?;
+    items_of(alloc, terms, text)
 }
 
 /// The refusal of a book that has too many bytes.
@@ -124,7 +125,7 @@ pub fn open_book<H: Shelf>(
     alloc: Global,
     shelf: &mut H,
     file: Option<&str>,
-) -> Result<PlainEnvironment, NoBook>
+) -> Result<Environment<Store>, NoBook>
     ensures accepted { IfOk result (λ e. Accepts (H.books shelf.old) (option_map (λ s. s.now) file.entry) e) }
     ensures refused { IfErr result (IsNoBook (H.books shelf.old) (option_map (λ s. s.now) file.entry) (H.faults shelf.old) (H.faults shelf.new)) }
     ensures books { H.books shelf.new ≡ H.books shelf.old }

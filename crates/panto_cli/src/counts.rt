@@ -5,6 +5,7 @@ ghost use Rattle.std.specs.List.{list_all};
 ghost use Rattle.pan_io.specs.Text.{parts};
 ghost use Rattle.panto_cli.specs.Demo.{IsCountOf, has_error, is_answered};
 
+use crate::store::Store;
 use command_set::Program;
 use repl_json::value_of;
 use state_tree::{Entry, Gave, Tree};
@@ -74,7 +75,7 @@ fn is_answered(entry: &Entry) -> bool
 }
 
 /// Counts what a session left in its tree and in its output. Fails for want of memory alone, also where an entry says so.
-pub fn count(alloc: Global, tree: Tree<Program>, output: &[u8]) -> Result<Counts, AllocError>
+pub fn count(alloc: Global, tree: Tree<Program<Store>>, output: &[u8]) -> Result<Counts, AllocError>
     ensures { IfOk result (IsCountOf tree output.now) }
 {
     let states = tree.states();

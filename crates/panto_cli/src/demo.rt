@@ -14,8 +14,8 @@ use crate::counts::{Counts, count};
 use crate::host::Host;
 use crate::notes::Outcome;
 use crate::status::Status;
-use command_set::{Environment, PlainEnvironment, Program};
-use ld_terms::TreeTerms;
+use crate::store::Store;
+use command_set::{Environment, Program};
 use meta_context::Env;
 use pan_io::{Failed, MemorySink, Sink, SureSource, put_all};
 use session_maker::make_session;
@@ -26,12 +26,12 @@ use std::thread::Threads;
 use worker_gate::Gate;
 
 /// The environment of the empty book.
-fn empty_book(alloc: Global) -> Result<PlainEnvironment, AllocError>
+fn empty_book(alloc: Global) -> Result<Environment<Store>, AllocError>
     ensures { IfOk result (λ book. book ≡ []) }
 {
-    let terms = TreeTerms::new(alloc)?;
+    let terms = Store::new(alloc)?;
     let items = Env::new();
-    Ok(PlainEnvironment::of(Environment::new(alloc, terms, items)?))
+    Ok(Environment::new(alloc, terms, items)?)
 }
 
 /// How many entries the tree of so many rounds has room for: ten for each round, and at least one.
@@ -71,7 +71,7 @@ fn run_text<R: Threads + Sync, G: Gate>(
     let end = run_session(
         host.rt,
         host.alloc,
-        &Program,
+        &Program::new(),
         &mut tree,
         1,
         &mut source,

@@ -1,5 +1,5 @@
-//! The top call of panto: words, a shelf of books, input and output in, a status out. The program
-//! over it is a few lines.
+//! The top calls of panto: words and a shelf of books in, and an input and an output, or the doors of many links; a status out.
+//! The program over them is a few lines.
 #![tactic(auto)]
 
 mod book;
@@ -12,12 +12,14 @@ mod pieces;
 mod run;
 mod serve;
 mod status;
+mod store;
 
 pub use link_server::Served;
 pub use notes::write_note;
 pub use run::panto_run;
 pub use serve::{Ended, panto_serve};
 pub use status::Status;
+pub use store::Store;
 
 #[cfg(test)]
 mod bad_input_tests;
@@ -29,6 +31,8 @@ mod goal_tests;
 mod serve_tests;
 #[cfg(test)]
 mod session_tests;
+#[cfg(test)]
+mod store_tests;
 #[cfg(test)]
 mod tests;
 #[cfg(test)]

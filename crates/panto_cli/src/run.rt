@@ -20,8 +20,9 @@ use crate::demo::run_demo;
 use crate::host::Host;
 use crate::notes::{Outcome, write_outcome};
 use crate::status::{Status, status_of};
+use crate::store::Store;
 use command_line::{Form, read_words};
-use command_set::{PlainEnvironment, Program};
+use command_set::{Environment, Program};
 use pan_io::{Shelf, Sink, Source};
 use session_server::{End, run_session};
 use state_tree::Tree;
@@ -42,7 +43,7 @@ pub fn outcome_of(end: End) -> Outcome
 /// Answers the requests of the input over a book.
 fn serve_book<R: Threads + Sync, S: Source, K: Sink, G: Gate>(
     host: &Host<'_, R, G>,
-    book: PlainEnvironment,
+    book: Environment<Store>,
     entries: u32,
     workers: u32,
     input: &mut S,
@@ -63,7 +64,14 @@ fn serve_book<R: Threads + Sync, S: Source, K: Sink, G: Gate>(
         return Outcome::Plain(Status::Memory);
     };
     let end = run_session(
-        host.rt, host.alloc, &Program, &mut tree, workers, input, output, host.gate,
+        host.rt,
+        host.alloc,
+        &Program::new(),
+        &mut tree,
+        workers,
+        input,
+        output,
+        host.gate,
     );
     // The length tells that the entries are a legal history.
     let _length = tree.length();
@@ -166,7 +174,7 @@ fn run_words<R: Threads + Sync, H: Shelf, S: Source, K: Sink, G: Gate>(
 /// `demo SEED COUNT` runs so many rounds of the session that the seed gives, and prints what they come to. Where the input and
 /// the shelf tell their bytes, the output is, however they are cut into reads, what `specs/Run.antt`
 /// says by the status: the replies of the one-thread server to the requests of the lines, in order.
-/// It always returns.
+/// Other words, those of `serve` too, are `Usage`. It always returns.
 pub fn panto_run<R: Threads + Sync, H: Shelf, S: Source, K: Sink, N: Sink, G: Gate>(
     rt: &R,
     alloc: Global,

@@ -7,7 +7,7 @@ ghost use Rattle.command_line.specs.Seen.{seen};
 ghost use Rattle.link_server.specs.Doors.{DoorsMeaning};
 ghost use Rattle.link_server.specs.Links.{Telling, served_as};
 ghost use Rattle.panto_cli.specs.Ends.{Counted};
-ghost use Rattle.panto_cli.specs.Notes.{Noted};
+ghost use Rattle.panto_cli.specs.Notes.{Noted, address_of};
 ghost use Rattle.panto_cli.specs.Outcomes.{status_in, line_of};
 ghost use Rattle.panto_cli.specs.Serve.{IsServe, Given, IsServedBy, HasHeard, AreNotes, CompletesLinks};
 ghost use Rattle.panto_cli.specs.Serving.{IsPlan, EndsServing};
@@ -53,7 +53,15 @@ where
           last = result.last;
         })
         result.outcome }
-    ensures heard { HasHeard (option_map (λ v. v.items) result.journal) (map (served_as (record { left = D.In.left; input_faults = D.In.faults; taken = D.Out.taken; output_faults = D.Out.faults })) result.served.items) (status_in result.outcome) result.told
+    ensures heard { HasHeard plan.entry.listen.now
+        (record {
+          doors = record { links = D.links doors.old; address = D.listens_on doors.old; faults = D.faults doors.old };
+          after = record { links = D.links doors.new; address = D.listens_on doors.new; faults = D.faults doors.new };
+          served = map (served_as (record { left = D.In.left; input_faults = D.In.faults; taken = D.Out.taken; output_faults = D.Out.faults })) result.served.items;
+          journal = option_map (λ v. v.items) result.journal;
+          last = result.last;
+        })
+        (status_in result.outcome) result.told
         (N.taken notes.old) (N.taken notes.new) (N.faults notes.old) (N.faults notes.new) }
     ensures books { H.books shelf.new ≡ H.books shelf.old }
     ensures later_shelf { H.faults shelf.old ≤ H.faults shelf.new }
@@ -88,7 +96,15 @@ where
           last = result.last;
         })
         result.outcome }
-    ensures heard { HasHeard (option_map (λ v. v.items) result.journal) (map (served_as (record { left = D.In.left; input_faults = D.In.faults; taken = D.Out.taken; output_faults = D.Out.faults })) result.served.items) (status_in result.outcome) result.told
+    ensures heard { HasHeard (address_of (Some (seen form.entry)))
+        (record {
+          doors = record { links = D.links doors.old; address = D.listens_on doors.old; faults = D.faults doors.old };
+          after = record { links = D.links doors.new; address = D.listens_on doors.new; faults = D.faults doors.new };
+          served = map (served_as (record { left = D.In.left; input_faults = D.In.faults; taken = D.Out.taken; output_faults = D.Out.faults })) result.served.items;
+          journal = option_map (λ v. v.items) result.journal;
+          last = result.last;
+        })
+        (status_in result.outcome) result.told
         (N.taken notes.old) (N.taken notes.new) (N.faults notes.old) (N.faults notes.new) }
     ensures books { H.books shelf.new ≡ H.books shelf.old }
     ensures later_shelf { H.faults shelf.old ≤ H.faults shelf.new }
@@ -139,7 +155,15 @@ where
           last = result.last;
         })
         result.outcome }
-    ensures heard { HasHeard (option_map (λ v. v.items) result.journal) (map (served_as (record { left = D.In.left; input_faults = D.In.faults; taken = D.Out.taken; output_faults = D.Out.faults })) result.served.items) (status_in result.outcome) result.told
+    ensures heard { HasHeard (address_of (form_of (map string_bytes words.now)))
+        (record {
+          doors = record { links = D.links doors.old; address = D.listens_on doors.old; faults = D.faults doors.old };
+          after = record { links = D.links doors.new; address = D.listens_on doors.new; faults = D.faults doors.new };
+          served = map (served_as (record { left = D.In.left; input_faults = D.In.faults; taken = D.Out.taken; output_faults = D.Out.faults })) result.served.items;
+          journal = option_map (λ v. v.items) result.journal;
+          last = result.last;
+        })
+        (status_in result.outcome) result.told
         (N.taken notes.old) (N.taken notes.new) (N.faults notes.old) (N.faults notes.new) }
     ensures books { H.books shelf.new ≡ H.books shelf.old }
     ensures later_shelf { H.faults shelf.old ≤ H.faults shelf.new }
@@ -171,8 +195,9 @@ fn write_end<N: Sink>(notes: &mut N, told: bool, outcome: &Outcome)
 ///
 /// `serve --listen ADDRESS [--book FILE] [--entries N] [--workers N] [--sessions N]` listens on the address and accepts so many links.
 /// Each is a session of its own over the book that the shelf has under FILE: it is started on a thread of its own when its link is
-/// accepted, or run on the caller's where no thread can be made. After a fault of the doors no more links are accepted. When all sessions
-/// have ended, the board is closed.
+/// accepted, or run on the caller's where no thread can be made. After a fault of the doors no more links are accepted, and the sessions
+/// that run go on to their ends. When all have ended, the board is closed. There are 1 to 1,048,576 entries, 65,536 where none are given, of
+/// all links together, 1 to 64 workers for each session and 1 to 64 sessions, each 1 where none are given. Other words are `Usage`.
 ///
 /// `specs/Serve.antt` says what it leaves: the journal is one legal history, and what each link was answered is what the one-thread server
 /// answers at its entries there. It may wait, for links and for turns.

@@ -131,6 +131,27 @@ fn doors_that_fail_take_no_more_links(rt: HostRuntime) -> Result<(), Fail> {
 }
 
 #[test]
+fn doors_that_cannot_listen_serve_nothing(rt: HostRuntime) -> Result<(), Fail> {
+    let alloc = rt.alloc();
+    let inputs: [&[u8]; 1] = [b"stat\n"];
+    let left = serve(
+        &rt,
+        alloc,
+        "serve --listen here",
+        &inputs,
+        vec![in alloc; 0]?,
+    )?;
+    assert_eq!(rt; left.ended.status, Status::OpenFault);
+    assert_eq!(rt; left.notes.as_slice(), b"panto: door fault\n".as_slice());
+    assert!(rt; left.ended.served.is_empty());
+    let Some(journal) = &left.ended.journal else {
+        panic!(rt; "no journal");
+    };
+    assert!(rt; journal.is_empty());
+    Ok(())
+}
+
+#[test]
 fn the_least_link_that_was_not_done_names_the_status(rt: HostRuntime) -> Result<(), Fail> {
     let alloc = rt.alloc();
     let inputs: [&[u8]; 3] = [b"", b"stat\nstat\n", b"stat\nstat\n"];
@@ -157,13 +178,20 @@ fn other_words_open_nothing(rt: HostRuntime) -> Result<(), Fail> {
     let alloc = rt.alloc();
     let rows = [
         ("run", Status::Usage),
+        ("check F", Status::Usage),
+        ("serve", Status::Usage),
         ("serve --sessions 2", Status::Usage),
+        ("serve --listen here --sessions 0", Status::Usage),
+        ("serve --listen here --sessions 65", Status::Usage),
+        ("serve --listen here --listen there", Status::Usage),
+        ("serve --listen -x", Status::Usage),
         ("serve --listen here --book F", Status::OpenFault),
     ];
     for (line, status) in rows {
         let left = serve(&rt, alloc, line, &[], Vec::new(alloc))?;
         assert_eq!(rt; left.ended.status, status);
         assert!(rt; left.ended.served.is_empty() && left.ended.journal.is_none());
+        assert!(rt; left.ended.last.is_none());
     }
     Ok(())
 }

@@ -8,25 +8,26 @@ use session_server::End;
 /// How a run of the program ended.
 #[derive(Debug, Clone, Copy, PartialEq, Eq, Drop)]
 pub enum Status {
-    /// The input was read to its end and everything to be printed was written.
+    /// The input of each session was read to its end and everything to be printed was written.
     Done,
-    /// The words are of no form that is served.
+    /// The words are of no form that the call serves.
     Usage,
-    /// The input failed.
+    /// The input failed, or that of the link that names the status.
     ReadFault,
-    /// The output failed.
+    /// The output failed, or that of the link that names the status.
     WriteFault,
     /// The book has more than 4,194,304 bytes, or it is refused.
     BookRefused,
     /// The journal holds all its entries, and a further request was to be entered.
     Full,
-    /// The shelf failed.
+    /// The shelf failed, or the doors.
     OpenFault,
-    /// All turns of the turn lock were drawn. No run of one session ends so.
+    /// All 4,611,686,018,427,387,904 turns of the turn lock were drawn, and a session asked for a further one. `panto_run` never
+    /// answers so.
     Worn,
     /// Memory was wanted.
     Memory,
-    /// The input has more than 1,099,511,627,776 bytes.
+    /// The input has more than 1,099,511,627,776 bytes, or that of the link that names the status.
     Long,
 }
 

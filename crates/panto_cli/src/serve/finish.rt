@@ -5,6 +5,7 @@ ghost use Rattle.panto_cli.specs.Links.{first_end, outcome_of_links};
 
 use crate::notes::Outcome;
 use crate::run::outcome_of;
+use crate::store::Store;
 use command_set::Program;
 use link_server::Served;
 use session_server::End;
@@ -19,7 +20,7 @@ pub struct Finish<I, O> {
     pub told: bool,
     pub served: Vec<Served<I, O>>,
     pub journal: Option<Vec<Entry>>,
-    pub last: Option<BoardPass<Program>>,
+    pub last: Option<BoardPass<Program<Store>>>,
 }
 
 impl<I: Drop, O: Drop> Finish<I, O> {

@@ -3,6 +3,8 @@
 ghost use Rattle.std.specs.Prelude.{◌≡◌, ◌≤◌, ℕ, List, [], Option, map, option_map, is_some, true, IfOk};
 ghost use Rattle.term_syntax.specs.Lex.{Text};
 ghost use Rattle.pan_io.specs.Books.{NamedBytes};
+ghost use Rattle.pan_io.specs.Doors.{ListensOn};
+ghost use Rattle.pan_io.specs.Faults.{Rose};
 ghost use Rattle.command_line.specs.Form.{serve};
 ghost use Rattle.goal_state.specs.State.{State};
 ghost use Rattle.command_set.specs.Values.{value};
@@ -19,7 +21,8 @@ use crate::host::Host;
 use crate::notes::Outcome;
 use crate::serve::finish::{Finish, outcome_of_links};
 use crate::status::Status;
-use command_set::{PlainEnvironment, Program};
+use crate::store::Store;
+use command_set::{Environment, Program};
 use link_server::{Closed, Places, serve_links};
 use pan_io::{Doors, Sink, put_all};
 use state_tree::Tree;
@@ -40,10 +43,10 @@ pub struct Plan<'a> {
 /// Places for so many links over a new tree of a book.
 fn open_places<I: Drop, O: Drop>(
     alloc: Global,
-    book: PlainEnvironment,
+    book: Environment<Store>,
     entries: u32,
     sessions: u32,
-) -> Result<Places<Program, I, O>, AllocError>
+) -> Result<Places<Program<Store>, I, O>, AllocError>
     requires sessions { (1 ≤ sessions) × (sessions ≤ 64) }
     ensures book { IfOk result (λ places. places.board.lock.the_ground.book ≡ book) }
     ensures entries { IfOk result (λ places. places.board.lock.the_ground.entries ≡ entries) }
@@ -57,14 +60,14 @@ fn open_places<I: Drop, O: Drop>(
 /// What is left of a board that was closed, and whether the notes took all that was written so far.
 #[derive(Drop)]
 struct Listened<I, O> {
-    closed: Closed<Program, I, O>,
+    closed: Closed<Program<Store>, I, O>,
     told: bool,
 }
 
 /// Listens, and serves a link for each place. Where the doors don't listen the board is closed at once.
 fn listen_and_serve<R: Threads + Wait + Sync, D: Doors, N: Sink, G: Gate>(
     host: &Host<'_, R, G>,
-    places: Places<Program, D::In, D::Out>,
+    places: Places<Program<Store>, D::In, D::Out>,
     plan: Plan<'_>,
     doors: &mut D,
     notes: &mut N,
@@ -81,7 +84,8 @@ where
         (map (served_as (record { left = D.In.left; input_faults = D.In.faults; taken = D.Out.taken; output_faults = D.Out.faults })) result.closed.served.items)
         result.closed.failed result.closed.journal.items result.closed.last }
     ensures later { D.faults doors.old ≤ D.faults doors.new }
-    ensures heard { Hears result.told ((result.closed.served.items ≡ []) × (result.closed.failed ≡ true)) (N.taken notes.old) (N.taken notes.new) (N.faults notes.old) (N.faults notes.new) }
+    ensures heard { Hears result.told (ListensOn (D.listens_on doors.new) plan.entry.listen.now)
+        ((result.closed.served.items ≡ []) × (result.closed.failed ≡ true) × Rose (D.faults doors.old) (D.faults doors.new)) (N.taken notes.old) (N.taken notes.new) (N.faults notes.old) (N.faults notes.new) }
     ensures tells_notes { is_some (N.taken notes.new) ≡ is_some (N.taken notes.old) }
     ensures later_notes { N.faults notes.old ≤ N.faults notes.new }
 {
@@ -95,7 +99,7 @@ where
     let closed = serve_links(
         host.rt,
         host.alloc,
-        &Program,
+        &Program::new(),
         plan.workers,
         places,
         doors,
@@ -107,7 +111,7 @@ where
 /// Serves links over a book.
 pub fn serve_book<R: Threads + Wait + Sync, D: Doors, N: Sink, G: Gate>(
     host: &Host<'_, R, G>,
-    book: PlainEnvironment,
+    book: Environment<Store>,
     plan: Plan<'_>,
     doors: &mut D,
     notes: &mut N,
@@ -126,7 +130,15 @@ where
           last = result.last;
         })
         result.outcome }
-    ensures heard { HasHeard (option_map (λ v. v.items) result.journal) (map (served_as (record { left = D.In.left; input_faults = D.In.faults; taken = D.Out.taken; output_faults = D.Out.faults })) result.served.items) (status_in result.outcome) result.told
+    ensures heard { HasHeard plan.entry.listen.now
+        (record {
+          doors = record { links = D.links doors.old; address = D.listens_on doors.old; faults = D.faults doors.old };
+          after = record { links = D.links doors.new; address = D.listens_on doors.new; faults = D.faults doors.new };
+          served = map (served_as (record { left = D.In.left; input_faults = D.In.faults; taken = D.Out.taken; output_faults = D.Out.faults })) result.served.items;
+          journal = option_map (λ v. v.items) result.journal;
+          last = result.last;
+        })
+        (status_in result.outcome) result.told
         (N.taken notes.old) (N.taken notes.new) (N.faults notes.old) (N.faults notes.new) }
     ensures later { D.faults doors.old ≤ D.faults doors.new }
     ensures tells_notes { is_some (N.taken notes.new) ≡ is_some (N.taken notes.old) }

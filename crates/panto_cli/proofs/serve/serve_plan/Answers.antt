@@ -12,4 +12,7 @@ returns-in-Err-clause-ends g c =
     (serve_without _ _ _ refl refl refl refl _ _ _ _ _ c.in-Err.fault c.in-Err.ensures.refused)
 
 pub returns-in-Err-clause-heard : goal.returns-in-Err-clause-heard
-returns-in-Err-clause-heard g c = silent c.without.result.journal (λ v. v.items) _ _ c.without.result.told _ _ c.without.ensures.journal c.without.ensures.told
+returns-in-Err-clause-heard g c = silent c.without.result.journal (λ v. v.items) _
+    (record { links = g.D.Doors.links c.args.doors.now; address = g.D.Doors.listens_on c.args.doors.now; faults = g.D.Doors.faults c.args.doors.now })
+    (record { links = g.D.Doors.links c.args.doors.now; address = g.D.Doors.listens_on c.args.doors.now; faults = g.D.Doors.faults c.args.doors.now })
+    _ c.without.result.last _ c.without.result.told _ _ c.without.ensures.journal c.without.ensures.told

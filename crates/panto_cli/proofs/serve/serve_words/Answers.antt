@@ -9,4 +9,7 @@ returns-in-Err-clause-ends g c =
 
 pub returns-in-Err-clause-heard : goal.returns-in-Err-clause-heard
 returns-in-Err-clause-heard g c =
-    silent c.without-in-Err.result.journal (λ v. v.items) _ _ c.without-in-Err.result.told _ _ c.without-in-Err.ensures.journal c.without-in-Err.ensures.told
+    silent c.without-in-Err.result.journal (λ v. v.items) _
+    (record { links = g.D.Doors.links c.args.doors.now; address = g.D.Doors.listens_on c.args.doors.now; faults = g.D.Doors.faults c.args.doors.now })
+    (record { links = g.D.Doors.links c.args.doors.now; address = g.D.Doors.listens_on c.args.doors.now; faults = g.D.Doors.faults c.args.doors.now })
+    _ c.without-in-Err.result.last _ c.without-in-Err.result.told _ _ c.without-in-Err.ensures.journal c.without-in-Err.ensures.told
