@@ -28,8 +28,8 @@ class Generator:
 
 class Server:
     """A running `panto run`, asked line by line."""
-    def __init__(self, entries):
-        self.child = subprocess.Popen([PANTO, "run", "--entries", str(entries)], stdin=subprocess.PIPE, stdout=subprocess.PIPE)
+    def __init__(self, entries, program=PANTO):
+        self.child = subprocess.Popen([program, "run", "--entries", str(entries)], stdin=subprocess.PIPE, stdout=subprocess.PIPE)
         self.replies = 0
 
     def ask(self, command, **fields):

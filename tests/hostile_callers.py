@@ -1,5 +1,5 @@
 #!/usr/bin/env python3
-"""Eight links at once on the built program, of which four behave badly: the other four get every reply, and the program ends by itself.
+"""Eight links at once on the built program, of which some behave badly: the others get every reply, and the program ends by itself.
 
 Usage: tests/hostile_callers.py PROGRAM [--levels N] [--seconds N]      (default 14 levels, and 30 seconds in all)
 
@@ -10,6 +10,8 @@ names them:
 - `cut` closes in the middle of a line: what it sent of it is answered, and its session is done;
 - `half` closes just its sending half in the middle of a line, reads the reply, and then waits for the end of the link;
 - `reset` breaks the link in the middle of a line: a read fault;
+- `gone` breaks the link at once, before it has sent anything: a read fault;
+- `shut` closes at once, before it has sent anything: its session is done;
 - `deaf` reads none of its replies, which soon fill the buffers, and closes when nothing moves any more: a write fault;
 - `huge` sends a line of a megabyte, raw bytes, lists that are nested too deep, and a term that reduction makes deeper than any text;
 - `work` plays rounds of a proof search line by line, and echoes in bursts.
@@ -32,6 +34,7 @@ CASES = [
     ("work reset work deaf work huge work silent", "deaf reset", 3),
     ("deaf work huge work reset work silent work", "reset deaf", 4),
     ("work cut work half work huge work silent", "cut", 0),
+    ("shut work shut gone work gone huge work", "", 3),
 ]
 
 def book_of(levels):
@@ -187,7 +190,13 @@ def deaf(link, chance, levels):
 def silent(link, chance, levels):
     pass
 
-ROLES = {"silent": silent, "cut": half_line, "half": half_line, "reset": half_line, "deaf": deaf, "huge": huge, "work": work}
+def gone(link, chance, levels):
+    link.reset()
+
+def shut(link, chance, levels):
+    link.close()
+
+ROLES = {"silent": silent, "cut": half_line, "half": half_line, "reset": half_line, "gone": gone, "shut": shut, "deaf": deaf, "huge": huge, "work": work}
 
 def settled(link, calm=4):
     """The number of entries, once no other link makes any while this one makes so many."""
