@@ -4,6 +4,7 @@ ghost use Rattle.std.specs.Prelude.{◌≡◌, IfOk};
 ghost use Rattle.state_tree.specs.Value.{Gives, value_at};
 ghost use Rattle.command_set.specs.Branches.{continue_with};
 ghost use Rattle.command_set.specs.Values.{on, value, no_value};
+ghost use Rattle.command_set.specs.declared.values.Program.{Program};
 ghost use Rattle.command_set.specs.Replies.{value_reply};
 
 use crate::env_add::add_items;
@@ -29,7 +30,9 @@ pub struct Program<T> {
 
 impl<T> Program<T> {
     /// The commands. Takes no memory.
-    pub fn new() -> Program<T> {
+    pub fn new() -> Program<T>
+        ensures { (other : Program T) → other ≡ result }
+    {
         Program { store: PhantomData }
     }
 }
