@@ -1,6 +1,6 @@
 -- One entry more or changed in a list in order.
 use Rattle.std.proofs.Common.{◌≡◌, ◌≢◌, ℕ, ◌<◌, ◌≤◌, ◌+◌, List, [], ◌∷◌, ◌++◌, length, refl, ap, sym, ◌∙◌, subst, Some, None, cond, get_or, set, take, drop, arith}
-use Rattle.std.specs.Prelude.{T, is_some, Bool, true, false}
+use Rattle.std.specs.Prelude.{T, is_some, Bool, true, false, Result, IfOk}
 use Rattle.std.proofs.lemmas.Grind.{common_steps}
 use Rattle.std.specs.FinMap.{find, put, is_sorted}
 use Rattle.std.specs.FinMap.Entries.{by_order, is_sorted-put, length-put, find-put}
@@ -9,7 +9,11 @@ use Rattle.std.proofs.lemmas.Cmp.{tied_itself}
 use Rattle.std.specs.Cmp.{IsTotalOrder}
 use Rattle.std.specs.declared.cmp.Ordering.{Ordering}
 use Rattle.std.specs.declared.cmp.Ordering.TheVariants.{Less, Equal, Greater}
+use Rattle.std.proofs.lemmas.Result.{IfOk-weaker}
 use Rattle.shared_map.specs.Blocks.{IsLeaf}
+use Rattle.shared_map.specs.Grown.{MatchTried}
+use Rattle.shared_map.specs.declared.part.Tried.{Tried}
+use Rattle.shared_map.specs.declared.part.Tried.TheVariants.{Put, Full}
 use Rattle.shared_map.specs.Search.{IsPlace}
 use Rattle.shared_map.proofs.Around.{find_around, put_around, sorted_left, sorted_right}
 use Rattle.shared_map.proofs.Cuts.{cut, entry_around, set_cut, same_element}
@@ -19,6 +23,12 @@ drop_here xs i d lt = grind (arith, common_steps)
 
 take_past : {A : Type 0} (xs : List A) (i : ℕ) (d : A) (ys : List A) → i < length xs → take i xs ++ get_or xs i d ∷ ys ≡ take (i + 1) xs ++ ys
 take_past xs i d ys lt = let e : take (i + 1) xs ≡ take i xs ++ get_or xs i d ∷ [] = grind (arith, common_steps) in rw e (sym (grind (arith, common_steps)))
+
+pub not_less : Less ≢ Equal
+not_less e = absurd (subst (λ r. T (is_eq r)) (sym e) tt)
+
+pub not_greater : Greater ≢ Equal
+not_greater e = absurd (subst (λ r. T (is_eq r)) (sym e) tt)
 
 module _ {K X : Type 0} (R : K → K → Ordering) (o : IsTotalOrder R) (q : K) (es : List (K × X)) (i : ℕ) (s : T (is_sorted R es)) (h : IsPlace (λ e. R q e.0) es i) (e : K × X) (at : e ≡ get_or es i e) where
   pub find_at : find R q es ≡ cond (is_eq (R q e.0)) (Some e.1) None
@@ -33,6 +43,20 @@ module _ {K X : Type 0} (R : K → K → Ordering) (o : IsTotalOrder R) (q : K) 
     | Equal ↦ λ n. absurd (n refl)
     | Greater ↦ λ n. refl
   ] n)
+
+  -- whether the key is there
+  pub was_there : R q e.0 ≡ Equal → true ≡ is_some (find R q es)
+  was_there l = ap is_some (find_equal l)
+
+  pub was_new : R q e.0 ≢ Equal → false ≡ is_some (find R q es)
+  was_new n = ap is_some (find_other n)
+
+  new_option : R q e.0 ≢ Equal → (t : Tried K X) → MatchTried t (λ found. found ≡ false) (λ _ _. Unit {0}) → MatchTried t (λ found. found ≡ is_some (find R q es)) (λ _ _. Unit {0})
+  new_option n (Put found) h = h ∙ was_new n
+  new_option n (Full k v) h = h
+
+  pub new_tried : {E : Type 0} (t : Result (Tried K X) E) → R q e.0 ≢ Equal → IfOk t (λ u. MatchTried u (λ found. found ≡ false) (λ _ _. Unit {0})) → IfOk t (λ u. MatchTried u (λ found. found ≡ is_some (find R q es)) (λ _ _. Unit {0}))
+  new_tried t n h = IfOk-weaker t _ _ (new_option n) h
 
   put_at : (v : X) → put R q v es ≡ take i es ++ (by_order (R q e.0) ((q, v) ∷ e ∷ []) ((e.0, v) ∷ []) (e ∷ (q, v) ∷ []) ++ drop (i + 1) es)
   put_at v = ap (put R q v) (cut es i e h.within) ∙ put_around R q v (take i es) (get_or es i e ∷ []) (drop (i + 1) es) (entry_around R o q es i e s h) ∙ ap (λ d. take i es ++ (put R q v (d ∷ []) ++ drop (i + 1) es)) (sym at)

@@ -1,8 +1,7 @@
 -- One part more or changed.
 use Rattle.std.proofs.Common.{◌≡◌, ℕ, ◌<◌, ◌≤◌, ◌+◌, ◌-◌, List, [], ◌∷◌, ◌++◌, length, refl, ap, sym, ◌∙◌, subst, get_or, set, take, drop, map, arith, length-append, append_assoc, append-nil}
-use Rattle.std.specs.Prelude.{T, Bool, cond, is_some, option_copied, Option, Some, None, MatchOption, Result, Ok, Err, IfOk, IfErr}
+use Rattle.std.specs.Prelude.{T, Bool, cond, is_some, Result, Ok, Err, IfOk, IfErr}
 use Rattle.std.specs.FinMap.Entries.{length-put}
-use Rattle.std.proofs.Common.{Bor}
 use Rattle.std.specs.List.{take-map, drop-map}
 use Rattle.std.proofs.lemmas.Grind.{common_steps}
 use Rattle.std.proofs.lemmas.List.Concat.{flat_map-append}
@@ -14,9 +13,11 @@ use Rattle.std.specs.Cmp.{IsTotalOrder}
 use Rattle.std.specs.declared.cmp.Ordering.{Ordering}
 use Rattle.shared_map.specs.Blocks.{IsLeaf, IsNode, IsMap, joined, NoneEmpty}
 use Rattle.shared_map.specs.Search.{IsPlace, cmp_first}
-use Rattle.shared_map.specs.Grown.{AreBlocks, parts_of}
+use Rattle.shared_map.specs.Grown.{AreBlocks, parts_of, MatchTried}
 use Rattle.shared_map.specs.declared.part.Grown.{Grown}
 use Rattle.shared_map.specs.declared.part.Grown.TheVariants.{One, Two}
+use Rattle.shared_map.specs.declared.part.Tried.{Tried}
+use Rattle.shared_map.specs.declared.part.Tried.TheVariants.{Put, Full}
 use Rattle.shared_map.proofs.Around.{find_around, put_around, sorted_left, sorted_right}
 use Rattle.shared_map.proofs.Cuts.{joined_cut, place_around, set_cut, set_two, full_at}
 use Rattle.shared_map.proofs.Edits.{put_sorted, put_some}
@@ -102,28 +103,39 @@ module _ {K X P : Type 0} (R : K → K → Ordering) (o : IsTotalOrder R) (q : K
   within_parts : i < length ps
   within_parts = rw length-map at h.within
 
-  tried_option : (t : Option (K × X)) → MatchOption t (f r ≡ put R q v (f p)) (λ e. (e ≡ (q, v)) × (f r ≡ f p)) →
-      MatchOption t (AreBlocks (put R q v (joined (map f ps))) (map f (set ps i r))) (λ e. (e ≡ (q, v)) × (map f (set ps i r) ≡ map f ps))
-  tried_option None e = rw map-set (put_alone R o q (map f ps) i s full h v (f r) (e ∙ ap (put R q v) (sym (value_at f ps i p within_parts is))))
-  tried_option (Some x) e = (e.0, map-set_same f ps i r p (e.1 ∙ ap f is))
+  tried_option : (t : Tried K X) → MatchTried t (λ _. f r ≡ put R q v (f p)) (λ k w. (k ≡ q) × (w ≡ v) × (f r ≡ f p)) →
+      MatchTried t (λ _. AreBlocks (put R q v (joined (map f ps))) (map f (set ps i r))) (λ k w. (k ≡ q) × (w ≡ v) × (map f (set ps i r) ≡ map f ps))
+  tried_option (Put found) e = rw map-set (put_alone R o q (map f ps) i s full h v (f r) (e ∙ ap (put R q v) (sym (value_at f ps i p within_parts is))))
+  tried_option (Full k w) e = (e.0, e.1, map-set_same f ps i r p (e.2 ∙ ap f is))
 
-  pub tried_alone : {E : Type 0} (t : Result (Option (K × X)) E) → IfOk t (λ u. MatchOption u (f r ≡ put R q v (f p)) (λ e. (e ≡ (q, v)) × (f r ≡ f p))) →
-      IfOk t (λ u. MatchOption u (AreBlocks (put R q v (joined (map f ps))) (map f (set ps i r))) (λ e. (e ≡ (q, v)) × (map f (set ps i r) ≡ map f ps)))
+  pub found_here : (found : Bool) → found ≡ is_some (find R q (f p)) → found ≡ is_some (find R q (joined (map f ps)))
+  found_here found e = e ∙ ap is_some (ap (find R q) (sym (value_at f ps i p within_parts is)) ∙ sym (find_place R o q (map f ps) i s full h))
+
+  found_option : (t : Tried K X) → MatchTried t (λ found. found ≡ is_some (find R q (f p))) (λ _ _. Unit {0}) → MatchTried t (λ found. found ≡ is_some (find R q (joined (map f ps)))) (λ _ _. Unit {0})
+  found_option (Put found) e = found_here found e
+  found_option (Full k w) e = e
+
+  pub found_alone : {E : Type 0} (t : Result (Tried K X) E) → IfOk t (λ u. MatchTried u (λ found. found ≡ is_some (find R q (f p))) (λ _ _. Unit {0})) →
+      IfOk t (λ u. MatchTried u (λ found. found ≡ is_some (find R q (joined (map f ps)))) (λ _ _. Unit {0}))
+  found_alone t e = IfOk-weaker t _ _ found_option e
+
+  pub tried_alone : {E : Type 0} (t : Result (Tried K X) E) → IfOk t (λ u. MatchTried u (λ _. f r ≡ put R q v (f p)) (λ k w. (k ≡ q) × (w ≡ v) × (f r ≡ f p))) →
+      IfOk t (λ u. MatchTried u (λ _. AreBlocks (put R q v (joined (map f ps))) (map f (set ps i r))) (λ k w. (k ≡ q) × (w ≡ v) × (map f (set ps i r) ≡ map f ps)))
   tried_alone t e = IfOk-weaker t _ _ tried_option e
 
 module _ {K X E : Type 0} (R : K → K → Ordering) (o : IsTotalOrder R) (q : K) (v : X) where
   -- a leaf after an attempt to put an entry into it
-  pub leaf_tried : (es fs : List (K × X)) (t : Result (Option (K × X)) E) → IsLeaf R es → length fs ≤ 64 →
-      IfOk t (λ u. MatchOption u (fs ≡ put R q v es) (λ e. (e ≡ (q, v)) × (fs ≡ es))) → IfErr t (λ e. fs ≡ es) → IsLeaf R fs
-  leaf_tried es fs (Ok None) l few e k = record { sorted = rw e (put_sorted R o q v es l.sorted); some = rw e (put_some R o q v es l.sorted l.some); few = few }
-  leaf_tried es fs (Ok (Some x)) l few e k = rw (e.1) l
+  pub leaf_tried : (es fs : List (K × X)) (t : Result (Tried K X) E) → IsLeaf R es → length fs ≤ 64 →
+      IfOk t (λ u. MatchTried u (λ _. fs ≡ put R q v es) (λ k w. (k ≡ q) × (w ≡ v) × (fs ≡ es))) → IfErr t (λ e. fs ≡ es) → IsLeaf R fs
+  leaf_tried es fs (Ok (Put found)) l few e k = record { sorted = rw e (put_sorted R o q v es l.sorted); some = rw e (put_some R o q v es l.sorted l.some); few = few }
+  leaf_tried es fs (Ok (Full k w)) l few e n = rw (e.2) l
   leaf_tried es fs (Err x) l few e k = rw k l
 
   -- a node after an attempt to put an entry into it
-  pub node_tried : (ps qs : List (List (K × X))) (t : Result (Option (K × X)) E) → IsNode R ps → 0 < length qs → length qs ≤ 64 →
-      IfOk t (λ u. MatchOption u (AreBlocks (put R q v (joined ps)) qs) (λ e. (e ≡ (q, v)) × (qs ≡ ps))) → IfErr t (λ e. qs ≡ ps) → IsNode R qs
-  node_tried ps qs (Ok None) n some few e k = record { sorted = rw (e.whole) (put_sorted R o q v (joined ps) n.sorted); full = e.full; some = some; few = few }
-  node_tried ps qs (Ok (Some x)) n some few e k = rw (e.1) n
+  pub node_tried : (ps qs : List (List (K × X))) (t : Result (Tried K X) E) → IsNode R ps → 0 < length qs → length qs ≤ 64 →
+      IfOk t (λ u. MatchTried u (λ _. AreBlocks (put R q v (joined ps)) qs) (λ k w. (k ≡ q) × (w ≡ v) × (qs ≡ ps))) → IfErr t (λ e. qs ≡ ps) → IsNode R qs
+  node_tried ps qs (Ok (Put found)) n some few e k = record { sorted = rw (e.whole) (put_sorted R o q v (joined ps) n.sorted); full = e.full; some = some; few = few }
+  node_tried ps qs (Ok (Full k w)) n some few e m = rw (e.2) n
   node_tried ps qs (Err x) n some few e k = rw k n
 
 -- what a part became stands in its place
@@ -165,17 +177,13 @@ module _ {K X : Type 0} (R : K → K → Ordering) where
     full = (some_joined (take n ps) (full_take ps n f) (grind (arith, common_steps)), (some_joined (drop n ps) (full_drop ps n f) (grind (arith, common_steps)), tt));
   }
 
-is_some_copied : {X : Type 0} (r : Option (Bor X)) → is_some r ≡ is_some (option_copied r)
-is_some_copied None = refl
-is_some_copied (Some x) = refl
-
 -- a map with one key changed
-pub map_put : {K X : Type 0} (R : K → K → Ordering) (o : IsTotalOrder R) (q : K) (v : X) (ps qs : List (List (K × X))) (n m : ℕ) (found : Bool) (r : Option (Bor X)) →
-    IsMap R ps n → AreBlocks (put R q v (joined ps)) qs → option_copied r ≡ find R q (joined ps) → found ≡ is_some r → m ≡ cond found n (n + 1) → IsMap R qs m
-map_put R o q v ps qs n m found r i p e f c = record {
+pub map_put : {K X : Type 0} (R : K → K → Ordering) (o : IsTotalOrder R) (q : K) (v : X) (ps qs : List (List (K × X))) (n m : ℕ) (found : Bool) →
+    IsMap R ps n → AreBlocks (put R q v (joined ps)) qs → found ≡ is_some (find R q (joined ps)) → m ≡ cond found n (n + 1) → IsMap R qs m
+map_put R o q v ps qs n m found i p f c = record {
   sorted = rw p.whole (put_sorted R o q v (joined ps) i.sorted);
   full = p.full;
-  counted = rw (p.whole, length-put R o q v (joined ps) i.sorted, ← e, ← is_some_copied r, ← f, ← i.counted) c;
+  counted = rw (p.whole, length-put R o q v (joined ps) i.sorted, ← f, ← i.counted) c;
 }
 
 map_twice : {P Q E : Type 0} (f : Q → E) (g : P → Q) (ps : List P) → map f (map g ps) ≡ map (λ p. f (g p)) ps

@@ -1,10 +1,10 @@
-ghost use Rattle.std.specs.Prelude.{◌≡◌, ◌++◌, ◌∷◌, [], ◌+◌, ◌<◌, ◌≤◌, IfErr, IfOk, MatchOption, OnOk, map, length, take, drop, option_copied, T};
+ghost use Rattle.std.specs.Prelude.{◌≡◌, ◌++◌, ◌∷◌, [], ◌+◌, ◌<◌, ◌≤◌, IfErr, IfOk, OnOk, length, take, drop, option_copied, is_some, false, T};
 ghost use Rattle.std.specs.FinMap.{find, put, is_sorted};
 ghost use Rattle.shared_map.specs.Blocks.{IsExact, IsLeaf};
-ghost use Rattle.shared_map.specs.Search.{IsPlace, cmp_first};
-ghost use Rattle.shared_map.specs.Grown.{parts_of, AreBlocks};
+ghost use Rattle.shared_map.specs.Search.{IsPlace};
+ghost use Rattle.shared_map.specs.Grown.{parts_of, AreBlocks, MatchTried};
 
-use crate::part::{Grown, Part};
+use crate::part::{Grown, Part, Tried};
 use std::alloc::{AllocError, Global};
 use std::cmp::Ordering;
 use std::marker::Model;
@@ -51,13 +51,26 @@ impl<K: Ord + Clone, V: Clone> Part<K, V> for Leaf<K, V> {
         value_of(&self.entries, key)
     }
 
-    fn with(&self, alloc: Global, key: K, value: V) -> Result<Grown<Leaf<K, V>>, AllocError> {
-        let cut = cut_for(&self.entries, &key);
-        let entries = with_key(alloc, &self.entries, key, value)?;
-        leaves_of(entries, cut)
+    fn with(
+        &self,
+        alloc: Global,
+        last: bool,
+        key: K,
+        value: V,
+    ) -> Result<(Grown<Leaf<K, V>>, bool), AllocError> {
+        let cut = cut_for(&self.entries, last, &key);
+        let (entries, found) = with_key(alloc, &self.entries, key, value)?;
+        let leaves = leaves_of(entries, cut)?;
+        Ok((leaves, found))
     }
 
-    fn insert(&mut self, _alloc: Global, key: K, value: V) -> Result<Option<(K, V)>, AllocError> {
+    fn insert(
+        &mut self,
+        _alloc: Global,
+        _last: bool,
+        key: K,
+        value: V,
+    ) -> Result<Tried<K, V>, AllocError> {
         insert_in(&mut self.entries, key, value)
     }
 }
@@ -76,42 +89,53 @@ fn value_of<'a, K: Ord, V>(entries: &'a [(K, V)], key: &K) -> Option<&'a V>
     }
 }
 
-/// Where a leaf that gets a 65th entry is cut: before that entry if it is the last, so that keys that come in rising
-/// order make full leaves, and else in the middle.
-fn cut_for<K: Ord, V>(entries: &[(K, V)], key: &K) -> usize
+/// Where a leaf that gets a 65th entry is cut: before that entry if it is the last of the map, so that keys that come in
+/// rising order make full leaves, and else in the middle. `last` says that the leaf is the map's last.
+fn cut_for<K: Ord, V>(entries: &[(K, V)], last: bool, key: &K) -> usize
     requires { 0 < length entries.now }
     ensures late { 32 ≤ result }
     ensures early { result ≤ 64 }
 {
+    if !last {
+        return MOST / 2;
+    }
     match key.cmp(&entries[entries.len() - 1].0) {
         Ordering::Greater => MOST,
         _ => MOST / 2,
     }
 }
 
-/// The entries with this value at the key.
+/// The entries with this value at the key, and whether the key was there before.
 fn with_key<K: Ord + Clone, V: Clone>(
     alloc: Global,
     entries: &[(K, V)],
     key: K,
     value: V,
-) -> Result<Vec<(K, V)>, AllocError>
+) -> Result<(Vec<(K, V)>, bool), AllocError>
     requires keys { IsExact K.is_clone }
     requires values { IsExact V.is_clone }
     requires sorted { T (is_sorted K.cmp entries.now) }
     requires some { 0 < length entries.now }
     requires few { length entries.now ≤ 64 }
-    ensures { IfOk result (λ v. v.items ≡ put K.cmp key value entries.now) }
+    ensures changed { IfOk result (λ r. r.0.items ≡ put K.cmp key value entries.now) }
+    ensures found { IfOk result (λ r. r.1 ≡ is_some (find K.cmp key entries.now)) }
 {
     let at = place_of(entries, &key);
     let entry = &entries[at];
     match key.cmp(&entry.0) {
-        Ordering::Less => put_in(alloc, entries, at, at, key, value),
+        Ordering::Less => {
+            let made = put_in(alloc, entries, at, at, key, value)?;
+            Ok((made, false))
+        }
         Ordering::Equal => {
             let key = entry.0.clone()?;
-            put_in(alloc, entries, at, at + 1, key, value)
+            let made = put_in(alloc, entries, at, at + 1, key, value)?;
+            Ok((made, true))
         }
-        Ordering::Greater => put_in(alloc, entries, at + 1, at + 1, key, value),
+        Ordering::Greater => {
+            let made = put_in(alloc, entries, at + 1, at + 1, key, value)?;
+            Ok((made, false))
+        }
     }
 }
 
@@ -172,12 +196,14 @@ fn insert_in<K: Ord + Drop, V: Drop>(
     entries: &mut Vec<(K, V)>,
     key: K,
     value: V,
-) -> Result<Option<(K, V)>, AllocError>
+) -> Result<Tried<K, V>, AllocError>
     requires sorted { T (is_sorted K.cmp entries.old.items) }
     requires some { 0 < length entries.old.items }
     requires few { length entries.old.items ≤ 64 }
-    ensures tried { IfOk result (λ o. MatchOption o (entries.new.items ≡ put K.cmp key value entries.old.items)
-        (λ e. (e ≡ (key, value)) × (entries.new.items ≡ entries.old.items))) }
+    ensures tried { IfOk result (λ t. MatchTried t (λ _. entries.new.items ≡ put K.cmp key value entries.old.items)
+        (λ k v. (k ≡ key) × (v ≡ value) × (entries.new.items ≡ entries.old.items))) }
+    ensures found { IfOk result (λ t. MatchTried t
+        (λ found. found ≡ is_some (find K.cmp key entries.old.items)) (λ _ _. Unit {0})) }
     ensures kept { IfErr result (λ e. entries.new.items ≡ entries.old.items) }
     ensures few { length entries.new.items ≤ 64 }
 {
@@ -186,32 +212,33 @@ fn insert_in<K: Ord + Drop, V: Drop>(
         Ordering::Less => insert_at(entries, at, key, value),
         Ordering::Equal => {
             entries[at].1 = value;
-            Ok(None)
+            Ok(Tried::Put { found: true })
         }
         Ordering::Greater => insert_at(entries, at + 1, key, value),
     }
 }
 
-/// Makes an entry the one at `at`, before those from there on. It comes back where there is no room for it.
+/// Makes a further entry the one at `at`, before those from there on. It comes back where there is no room for it.
 fn insert_at<K: Drop, V: Drop>(
     entries: &mut Vec<(K, V)>,
     at: usize,
     key: K,
     value: V,
-) -> Result<Option<(K, V)>, AllocError>
+) -> Result<Tried<K, V>, AllocError>
     requires within { at ≤ length entries.old.items }
     requires few { length entries.old.items ≤ 64 }
-    ensures tried { IfOk result (λ o. MatchOption o
-        (entries.new.items ≡ take at entries.old.items ++ (key, value) ∷ drop at entries.old.items)
-        (λ e. (e ≡ (key, value)) × (entries.new.items ≡ entries.old.items))) }
+    ensures tried { IfOk result (λ t. MatchTried t
+        (λ _. entries.new.items ≡ take at entries.old.items ++ (key, value) ∷ drop at entries.old.items)
+        (λ k v. (k ≡ key) × (v ≡ value) × (entries.new.items ≡ entries.old.items))) }
+    ensures found { IfOk result (λ t. MatchTried t (λ found. found ≡ false) (λ _ _. Unit {0})) }
     ensures kept { IfErr result (λ e. entries.new.items ≡ entries.old.items) }
     ensures few { length entries.new.items ≤ 64 }
 {
     if entries.len() >= MOST {
-        return Ok(Some((key, value)));
+        return Ok(Tried::Full(key, value));
     }
     entries.insert(at, (key, value))?;
-    Ok(None)
+    Ok(Tried::Put { found: false })
 }
 
 /// One leaf with these entries, or two where they are too many for one.

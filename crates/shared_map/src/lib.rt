@@ -15,10 +15,14 @@
 //! own to search by: the first key of a node or leaf is that of its first entry.
 //!
 //! `with` copies one leaf, one node and the list of nodes, and shares all other leaves and nodes with the old map. So
-//! a further version takes the memory of at most 65 entries, 65 pointers to leaves, and the list of nodes. As a node holds
-//! from 1 to 64 leaves and a leaf from 1 to 64 entries, a map of n keys has at least n / 4,096 nodes and at most n. A block
-//! that would get a 65th part is cut in two, in the middle, or before its new last part, so that keys that come in rising
-//! order leave full blocks behind.
+//! a further version takes the room of at most 65 entries, 65 pointers to leaves, and the list of nodes. Where a leaf or
+//! a node is cut in two, its first half keeps the room of 65, and the other takes its own: then the two leaves have room for
+//! up to 98 entries, or the two nodes for up to 98 leaves.
+//!
+//! A block that would get a 65th part is cut in the middle. At the map's end alone, where the new part is the last of all,
+//! the cut is before it, so that keys that come above all others in rising order leave full blocks behind. So each leaf but
+//! the last has 32 entries or more, each node but the last has 32 leaves or more, and a map of n keys has from n / 4,096 to
+//! n / 1,024 + 1 nodes.
 //!
 //! `insert` copies nothing where no other map has the leaf and its node and the leaf has room. Else it makes a new leaf,
 //! or two, in the place of the old one. It makes a new node as well, or two, where another map has the node, or where

@@ -1,4 +1,4 @@
-ghost use Rattle.std.specs.Prelude.{◌≡◌, ◌≢◌, ◌++◌, ◌∷◌, [], ◌+◌, ◌<◌, ◌≤◌, IfErr, IfOk, IsTrue, OnOk, map, length, option_copied, cond, Some, T};
+ghost use Rattle.std.specs.Prelude.{◌≡◌, ◌≢◌, ◌∷◌, [], ◌+◌, ◌<◌, IfErr, IfOk, IsTrue, OnOk, map, length, option_copied, cond, is_some, Some, T};
 ghost use Rattle.std.specs.Arc.{arc_value};
 ghost use Rattle.std.specs.FinMap.{find, put, is_sorted};
 ghost use Rattle.std.specs.declared.cmp.Ordering.TheVariants.{Equal};
@@ -8,7 +8,7 @@ ghost use Rattle.shared_map.specs.Top.{nodes_in};
 
 use crate::in_place::{insert_at, renew_at};
 use crate::node::Node;
-use crate::part::{place_of, share, value_of, with_key};
+use crate::part::{Tried, place_of, share, value_of, with_key};
 use std::alloc::{AllocError, Global};
 use std::marker::Model;
 use std::sync::Arc;
@@ -85,8 +85,8 @@ impl<K: Ord + Clone, V: Clone> SharedMap<K, V> {
             (q : K) → K.cmp q key ≢ Equal → find K.cmp q m ≡ find K.cmp q self.now) }
         ensures in_order { IfOk result (λ m. IsTrue (is_sorted K.cmp m)) }
     {
-        let count = counted(self.count, self.get(&key).is_some())?;
-        let nodes = nodes_with(alloc, nodes_of(&self.nodes), key, value)?;
+        let (nodes, found) = nodes_with(alloc, nodes_of(&self.nodes), key, value)?;
+        let count = counted(self.count, found)?;
         Ok(SharedMap {
             nodes: Some(nodes),
             count,
@@ -101,17 +101,17 @@ impl<K: Ord + Clone, V: Clone> SharedMap<K, V> {
     ///
     /// # Errors
     ///
-    /// `AllocError` where memory runs out; then the map is as it was. A map of 18,446,744,073,709,551,615 keys gets no
-    /// further one: that counts as want of memory.
+    /// `AllocError` where memory runs out; then the map is as it was. A map of 18,446,744,073,709,551,615 keys can't be
+    /// changed: that counts as want of memory.
     pub fn insert(&mut self, alloc: Global, key: K, value: V) -> Result<(), AllocError>
         requires keys { IsExact K.is_clone }
         requires values { IsExact V.is_clone }
         ensures changed { OnOk result (self.new ≡ put K.cmp key value self.old) }
         ensures kept { IfErr result (λ e. self.new ≡ self.old) }
     {
-        let count = counted(self.count, self.get(&key).is_some())?;
-        insert_among(alloc, &mut self.nodes, key, value)?;
-        self.count = count;
+        let more = counted(self.count, false)?;
+        let found = insert_among(alloc, &mut self.nodes, key, value)?;
+        self.count = count_after(self.count, found, more);
         Ok(())
     }
 
@@ -154,25 +154,34 @@ fn counted(count: u64, found: bool) -> Result<u64, AllocError>
     }
 }
 
-/// The nodes with this value at the key.
+/// How many entries there are after a value was put at a key that was there or wasn't, where a further one makes `more`.
+fn count_after(count: u64, found: bool, more: u64) -> u64
+    ensures { result ≡ cond found count more }
+{
+    if found { count } else { more }
+}
+
+/// The nodes with this value at the key, and whether the key was there before.
 fn nodes_with<K: Ord + Clone, V: Clone>(
     alloc: Global,
     nodes: &[Arc<Node<K, V>>],
     key: K,
     value: V,
-) -> Result<Vec<Arc<Node<K, V>>>, AllocError>
+) -> Result<(Vec<Arc<Node<K, V>>>, bool), AllocError>
     requires keys { IsExact K.is_clone }
     requires values { IsExact V.is_clone }
     requires sorted { T (is_sorted K.cmp (joined (map arc_value nodes.now))) }
     requires full { NoneEmpty (map arc_value nodes.now) }
-    ensures { IfOk result (λ v.
-        AreBlocks (put K.cmp key value (joined (map arc_value nodes.now))) (map arc_value v.items)) }
+    ensures changed { IfOk result (λ r.
+        AreBlocks (put K.cmp key value (joined (map arc_value nodes.now))) (map arc_value r.0.items)) }
+    ensures found { IfOk result (λ r. r.1 ≡ is_some (find K.cmp key (joined (map arc_value nodes.now)))) }
 {
     if nodes.is_empty() {
-        return one_node(alloc, key, value);
+        let made = one_node(alloc, key, value)?;
+        return Ok((made, false));
     }
     let at = place_of(nodes, &key);
-    with_key(alloc, nodes, at, key, value)
+    with_key(alloc, nodes, at, true, key, value)
 }
 
 /// A list of one node, which has one entry.
@@ -189,54 +198,60 @@ fn one_node<K: Ord + Drop, V: Drop>(
     Ok(made)
 }
 
-/// Gives a key a value among the nodes of a map. At an error they are as they were.
+/// Gives a key a value among the nodes of a map, and answers whether the key was there before. At an error they are as
+/// they were.
 fn insert_among<K: Ord + Clone, V: Clone>(
     alloc: Global,
     nodes: &mut Option<Vec<Arc<Node<K, V>>>>,
     key: K,
     value: V,
-) -> Result<(), AllocError>
+) -> Result<bool, AllocError>
     requires keys { IsExact K.is_clone }
     requires values { IsExact V.is_clone }
     requires sorted { T (is_sorted K.cmp (joined (map arc_value (nodes_in nodes.old)))) }
     requires full { NoneEmpty (map arc_value (nodes_in nodes.old)) }
-    ensures changed { OnOk result (
+    ensures changed { IfOk result (λ _.
         AreBlocks (put K.cmp key value (joined (map arc_value (nodes_in nodes.old))))
         (map arc_value (nodes_in nodes.new))) }
+    ensures found { IfOk result (λ found.
+        found ≡ is_some (find K.cmp key (joined (map arc_value (nodes_in nodes.old))))) }
     ensures kept { IfErr result (λ e. map arc_value (nodes_in nodes.new) ≡ map arc_value (nodes_in nodes.old)) }
 {
     match nodes {
         Some(list) => insert_in(alloc, list, key, value),
         None => {
             *nodes = Some(one_node(alloc, key, value)?);
-            Ok(())
+            Ok(false)
         }
     }
 }
 
-/// Gives a key a value in a list of nodes, in place where it can. At an error the nodes are as they were.
+/// Gives a key a value in a list of nodes, in place where it can, and answers whether the key was there before. At an
+/// error the nodes are as they were.
 fn insert_in<K: Ord + Clone, V: Clone>(
     alloc: Global,
     nodes: &mut Vec<Arc<Node<K, V>>>,
     key: K,
     value: V,
-) -> Result<(), AllocError>
+) -> Result<bool, AllocError>
     requires keys { IsExact K.is_clone }
     requires values { IsExact V.is_clone }
     requires sorted { T (is_sorted K.cmp (joined (map arc_value nodes.old.items))) }
     requires full { NoneEmpty (map arc_value nodes.old.items) }
-    ensures changed { OnOk result (
+    ensures changed { IfOk result (λ _.
         AreBlocks (put K.cmp key value (joined (map arc_value nodes.old.items))) (map arc_value nodes.new.items)) }
+    ensures found { IfOk result (λ found.
+        found ≡ is_some (find K.cmp key (joined (map arc_value nodes.old.items)))) }
     ensures kept { IfErr result (λ e. map arc_value nodes.new.items ≡ map arc_value nodes.old.items) }
 {
     if nodes.is_empty() {
         *nodes = one_node(alloc, key, value)?;
-        return Ok(());
+        return Ok(false);
     }
     let at = place_of(nodes, &key);
-    match insert_at(alloc, nodes, at, key, value)? {
-        None => Ok(()),
-        Some((key, value)) => renew_at(alloc, nodes, at, key, value),
+    match insert_at(alloc, nodes, at, true, key, value)? {
+        Tried::Put { found } => Ok(found),
+        Tried::Full(key, value) => renew_at(alloc, nodes, at, true, key, value),
     }
 }
 

@@ -1,12 +1,12 @@
-ghost use Rattle.std.specs.Prelude.{◌≡◌, ◌++◌, ◌∷◌, [], ◌+◌, ◌<◌, ◌≤◌, IfErr, IfOk, MatchOption, map, length, T};
+ghost use Rattle.std.specs.Prelude.{◌≡◌, ◌∷◌, [], ◌+◌, ◌<◌, ◌≤◌, IfErr, IfOk, map, length, is_some, T};
 ghost use Rattle.std.specs.Arc.{arc_value};
-ghost use Rattle.std.specs.FinMap.{put, is_sorted};
+ghost use Rattle.std.specs.FinMap.{find, put, is_sorted};
 ghost use Rattle.shared_map.specs.Blocks.{IsExact, joined, NoneEmpty};
-ghost use Rattle.shared_map.specs.Grown.{parts_of, AreBlocks};
+ghost use Rattle.shared_map.specs.Grown.{parts_of, AreBlocks, MatchTried};
 
 use crate::in_place::{insert_at, renew_at};
 use crate::leaf::Leaf;
-use crate::part::{Grown, Part, place_of, value_of, with_key};
+use crate::part::{Grown, Part, Tried, is_last, place_of, value_of, with_key};
 use std::alloc::{AllocError, Global};
 use std::cmp::Ordering;
 use std::marker::Model;
@@ -56,26 +56,39 @@ impl<K: Ord + Clone, V: Clone> Part<K, V> for Node<K, V> {
         value_of(&self.leaves, key)
     }
 
-    fn with(&self, alloc: Global, key: K, value: V) -> Result<Grown<Node<K, V>>, AllocError> {
+    fn with(
+        &self,
+        alloc: Global,
+        last: bool,
+        key: K,
+        value: V,
+    ) -> Result<(Grown<Node<K, V>>, bool), AllocError> {
         let at = place_of(&self.leaves, &key);
-        let cut = cut_for(&self.leaves, at);
-        let leaves = with_key(alloc, &self.leaves, at, key, value)?;
-        nodes_of(leaves, cut)
+        let cut = cut_for(&self.leaves, at, last);
+        let (leaves, found) = with_key(alloc, &self.leaves, at, last, key, value)?;
+        let nodes = nodes_of(leaves, cut)?;
+        Ok((nodes, found))
     }
 
-    fn insert(&mut self, alloc: Global, key: K, value: V) -> Result<Option<(K, V)>, AllocError> {
-        insert_in(alloc, &mut self.leaves, key, value)
+    fn insert(
+        &mut self,
+        alloc: Global,
+        last: bool,
+        key: K,
+        value: V,
+    ) -> Result<Tried<K, V>, AllocError> {
+        insert_in(alloc, &mut self.leaves, last, key, value)
     }
 }
 
-/// Where a node that gets a 65th leaf is cut: before that leaf if it is the last, so that keys that come in rising
-/// order make full nodes, and else in the middle.
-fn cut_for<T>(leaves: &[Arc<T>], at: usize) -> usize
+/// Where a node that gets a 65th leaf is cut: before that leaf if it is the last of the map, so that keys that come in
+/// rising order make full nodes, and else in the middle.
+fn cut_for<T>(leaves: &[Arc<T>], at: usize, last: bool) -> usize
     requires { at < length leaves.now }
     ensures late { 32 ≤ result }
     ensures early { result ≤ 64 }
 {
-    if at + 1 == leaves.len() {
+    if is_last(last, at, leaves.len()) {
         MOST
     } else {
         MOST / 2
@@ -83,35 +96,38 @@ fn cut_for<T>(leaves: &[Arc<T>], at: usize) -> usize
 }
 
 /// Puts a value at the key among these leaves. Where that takes a new leaf and there may be no further one, the entry
-/// comes back.
+/// comes back. `last` says that the map has nothing after these leaves.
 fn insert_in<K: Ord + Clone, V: Clone>(
     alloc: Global,
     leaves: &mut Vec<Arc<Leaf<K, V>>>,
+    last: bool,
     key: K,
     value: V,
-) -> Result<Option<(K, V)>, AllocError>
+) -> Result<Tried<K, V>, AllocError>
     requires keys { IsExact K.is_clone }
     requires values { IsExact V.is_clone }
     requires sorted { T (is_sorted K.cmp (joined (map arc_value leaves.old.items))) }
     requires full { NoneEmpty (map arc_value leaves.old.items) }
     requires some { 0 < length leaves.old.items }
     requires few { length leaves.old.items ≤ 64 }
-    ensures tried { IfOk result (λ o. MatchOption o
-        (AreBlocks (put K.cmp key value (joined (map arc_value leaves.old.items))) (map arc_value leaves.new.items))
-        (λ e. (e ≡ (key, value)) × (map arc_value leaves.new.items ≡ map arc_value leaves.old.items))) }
+    ensures tried { IfOk result (λ t. MatchTried t
+        (λ _. AreBlocks (put K.cmp key value (joined (map arc_value leaves.old.items))) (map arc_value leaves.new.items))
+        (λ k v. (k ≡ key) × (v ≡ value) × (map arc_value leaves.new.items ≡ map arc_value leaves.old.items))) }
+    ensures found { IfOk result (λ t. MatchTried t
+        (λ found. found ≡ is_some (find K.cmp key (joined (map arc_value leaves.old.items)))) (λ _ _. Unit {0})) }
     ensures kept { IfErr result (λ e. map arc_value leaves.new.items ≡ map arc_value leaves.old.items) }
     ensures some { 0 < length leaves.new.items }
     ensures few { length leaves.new.items ≤ 64 }
 {
     let at = place_of(leaves, &key);
-    match insert_at(alloc, leaves, at, key, value)? {
-        None => Ok(None),
-        Some((key, value)) => {
+    match insert_at(alloc, leaves, at, last, key, value)? {
+        Tried::Put { found } => Ok(Tried::Put { found }),
+        Tried::Full(key, value) => {
             if leaves.len() >= MOST {
-                return Ok(Some((key, value)));
+                return Ok(Tried::Full(key, value));
             }
-            renew_at(alloc, leaves, at, key, value)?;
-            Ok(None)
+            let found = renew_at(alloc, leaves, at, last, key, value)?;
+            Ok(Tried::Put { found })
         }
     }
 }

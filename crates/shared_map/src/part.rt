@@ -1,10 +1,9 @@
-ghost use Rattle.std.specs.Prelude.{◌≡◌, ◌++◌, ◌∷◌, [], ◌+◌, ◌<◌, ◌≤◌, IfErr, IfOk, MatchOption, OnOk, map, length, take, drop, option_copied, List, T};
+ghost use Rattle.std.specs.Prelude.{◌≡◌, ◌++◌, ◌+◌, ◌<◌, ◌≤◌, ◌↔◌, IfErr, IfOk, IsTrue, OnOk, map, length, take, drop, option_copied, is_some, List, T};
 ghost use Rattle.std.specs.Arc.{arc_value};
 ghost use Rattle.std.specs.FinMap.{find, put, is_sorted};
-ghost use Rattle.std.specs.declared.cmp.Ordering.{Ordering as Order};
 ghost use Rattle.shared_map.specs.Blocks.{IsExact, joined, NoneEmpty};
 ghost use Rattle.shared_map.specs.Search.{IsPlace, cmp_first};
-ghost use Rattle.shared_map.specs.Grown.{parts_of, AreBlocks};
+ghost use Rattle.shared_map.specs.Grown.{parts_of, AreBlocks, MatchTried};
 
 use std::alloc::{AllocError, Global};
 use std::cmp::Ordering;
@@ -15,6 +14,15 @@ use std::sync::Arc;
 pub enum Grown<T> {
     One(T),
     Two(T, T),
+}
+
+/// What came of an attempt to put an entry into a part itself.
+#[derive(Drop)]
+pub enum Tried<K, V> {
+    /// It is there. `found` says whether its key was there before.
+    Put { found: bool },
+    /// The part has no room for it, and it comes back.
+    Full(K, V),
 }
 
 /// A part of a map: a leaf, or a node, which has leaves as its parts.
@@ -30,19 +38,36 @@ pub trait Part<K: Ord + Clone, V: Clone>: Drop + Sized {
     fn get(&self, key: &K) -> Option<&V>
         ensures { option_copied result ≡ find K.cmp key.now (entries self.now) };
 
-    /// The part with this value at the key, as one part or two.
-    fn with(&self, alloc: Global, key: K, value: V) -> Result<Grown<Self>, AllocError>
+    /// The part with this value at the key, as one part or two, and whether the key was there before. `last` says that
+    /// the map has nothing after this part, and so that keys which come in rising order come here.
+    fn with(
+        &self,
+        alloc: Global,
+        last: bool,
+        key: K,
+        value: V,
+    ) -> Result<(Grown<Self>, bool), AllocError>
         requires keys { IsExact K.is_clone }
         requires values { IsExact V.is_clone }
-        ensures { IfOk result (λ g. AreBlocks (put K.cmp key value (entries self.now)) (map entries (parts_of g))) };
+        ensures parts { IfOk result (λ r.
+            AreBlocks (put K.cmp key value (entries self.now)) (map entries (parts_of r.0))) }
+        ensures found { IfOk result (λ r. r.1 ≡ is_some (find K.cmp key (entries self.now))) };
 
     /// Puts this value at the key in the part itself. Where the part has no room for that, the entry comes back, and
-    /// the part is as it was, as it is at an error.
-    fn insert(&mut self, alloc: Global, key: K, value: V) -> Result<Option<(K, V)>, AllocError>
+    /// the part is as it was, as it is at an error. `last` is as for `with`.
+    fn insert(
+        &mut self,
+        alloc: Global,
+        last: bool,
+        key: K,
+        value: V,
+    ) -> Result<Tried<K, V>, AllocError>
         requires keys { IsExact K.is_clone }
         requires values { IsExact V.is_clone }
-        ensures tried { IfOk result (λ o. MatchOption o (entries self.new ≡ put K.cmp key value (entries self.old))
-            (λ e. (e ≡ (key, value)) × (entries self.new ≡ entries self.old))) }
+        ensures tried { IfOk result (λ t. MatchTried t (λ _. entries self.new ≡ put K.cmp key value (entries self.old))
+            (λ k v. (k ≡ key) × (v ≡ value) × (entries self.new ≡ entries self.old))) }
+        ensures found { IfOk result (λ t. MatchTried t
+            (λ found. found ≡ is_some (find K.cmp key (entries self.old))) (λ _ _. Unit {0})) }
         ensures kept { IfErr result (λ e. entries self.new ≡ entries self.old) };
 }
 
@@ -79,27 +104,41 @@ pub(crate) fn value_of<'a, K: Ord + Clone, V: Clone, P: Part<K, V>>(
     parts[at].get(key)
 }
 
-/// The parts with this value at a key that is or would be in the part at `at`.
+/// Whether the map has nothing after the part at `at` of `count` parts. `last` says that it has nothing after these.
+pub(crate) fn is_last(last: bool, at: usize, count: usize) -> bool
+    requires { at < count }
+    ensures { IsTrue result ↔ IsTrue last × (at + 1 ≡ count) }
+{
+    last && at + 1 == count
+}
+
+/// The parts with this value at a key that is or would be in the part at `at`, and whether the key was there before.
+/// `last` says that the map has nothing after these parts.
 pub(crate) fn with_key<K: Ord + Clone, V: Clone, P: Part<K, V>>(
     alloc: Global,
     parts: &[Arc<P>],
     at: usize,
+    last: bool,
     key: K,
     value: V,
-) -> Result<Vec<Arc<P>>, AllocError>
+) -> Result<(Vec<Arc<P>>, bool), AllocError>
     requires keys { IsExact K.is_clone }
     requires values { IsExact V.is_clone }
     requires sorted { T (is_sorted K.cmp (joined (map (λ p. P.entries (arc_value p)) parts.now))) }
     requires full { NoneEmpty (map (λ p. P.entries (arc_value p)) parts.now) }
     requires place { IsPlace (cmp_first K.cmp key) (map (λ p. P.entries (arc_value p)) parts.now) at }
-    ensures parts { IfOk result (λ v.
+    ensures parts { IfOk result (λ r.
         AreBlocks (put K.cmp key value (joined (map (λ p. P.entries (arc_value p)) parts.now)))
-        (map (λ p. P.entries (arc_value p)) v.items)) }
-    ensures few { IfOk result (λ v. length v.items ≤ length parts.now + 1) }
-    ensures some { IfOk result (λ v. 0 < length v.items) }
+        (map (λ p. P.entries (arc_value p)) r.0.items)) }
+    ensures few { IfOk result (λ r. length r.0.items ≤ length parts.now + 1) }
+    ensures some { IfOk result (λ r. 0 < length r.0.items) }
+    ensures found { IfOk result (λ r.
+        r.1 ≡ is_some (find K.cmp key (joined (map (λ p. P.entries (arc_value p)) parts.now)))) }
 {
-    let grown = parts[at].with(alloc, key, value)?;
-    with_part(alloc, parts, at, grown)
+    let last = is_last(last, at, parts.len());
+    let (grown, found) = parts[at].with(alloc, last, key, value)?;
+    let made = with_part(alloc, parts, at, grown)?;
+    Ok((made, found))
 }
 
 /// The parts, with what the one at `at` became in its place.

@@ -123,6 +123,25 @@ fn insert_keeps_many_keys(rt: HostRuntime) -> Result<(), Fail> {
     Ok(())
 }
 
+/// Rising keys fill a leaf, and falling ones below them come into leaves that aren't the last.
+#[test]
+fn falling_keys_are_kept_below_rising_ones(rt: HostRuntime) -> Result<(), Fail> {
+    let mut keys = Vec::new(rt.alloc());
+    for i in 2000..2064u64 {
+        keys.push(i)?;
+    }
+    for i in 0..2000u64 {
+        keys.push(1999u64.wrapping_sub(i))?;
+    }
+    let made = filled(rt.alloc(), &keys)?;
+    let changed = inserted(rt.alloc(), &keys)?;
+    for map in [&made, &changed] {
+        assert_eq!(rt; map.len(), 2064);
+        assert_eq!(rt; wrong(map, 2064), 0);
+    }
+    Ok(())
+}
+
 /// The fork shares each leaf, the last, which has room, and the first, which is full.
 #[test]
 fn insert_leaves_a_fork_as_it_was(rt: HostRuntime) -> Result<(), Fail> {

@@ -1,9 +1,8 @@
 use Rattle.std.proofs.Common.{sym, ◌∙◌, ap, map, get_or, [], ◌≡◌}
-use Rattle.std.proofs.lemmas.Result.{IfOk-weaker}
 use Rattle.std.proofs.lemmas.List.{length-map}
 use Rattle.std.specs.Arc.{arc_value}
 use Rattle.shared_map.specs.Grown.{parts_of}
-use Rattle.shared_map.proofs.Parts.{put_place, value_at, map_of_parts}
+use Rattle.shared_map.proofs.Parts.{put_place, value_at, map_of_parts, found_here}
 use Rattle.shared_map.proofs.part.with_key.Goals as goal
 
 pub returns-clause-parts : goal.returns-clause-parts
@@ -11,6 +10,11 @@ returns-clause-parts g c =
     let lists = map (λ p. g.P.Part.entries (arc_value p)) c.args.parts.now in
     let e : get_or lists c.args.at [] ≡ g.P.Part.entries c.deref.result.now =
     value_at (λ p. g.P.Part.entries (arc_value p)) c.args.parts.now c.args.at c.index-parts-at.result (rw length-map at c.requires.place.within) c.index-parts-at.is ∙ ap g.P.Part.entries (sym c.deref.ensures) in
-    IfOk-weaker c.with_part.result _ _ (λ v same. put_place g.K.Ord.cmp g.met.K.Ord.total c.args.key lists c.args.at c.requires.sorted c.requires.full c.requires.place c.args.value
-    (map g.P.Part.entries (parts_of c.in_ok-grown.grown)) (map (λ p. g.P.Part.entries (arc_value p)) v.items) (rw e c.in_ok-grown.ensures)
-    (map_of_parts g.P.Part.entries arc_value c.args.parts.now c.args.at (parts_of c.in_ok-grown.grown) v.items same)) c.with_part.ensures.parts
+    put_place g.K.Ord.cmp g.met.K.Ord.total c.args.key lists c.args.at c.requires.sorted c.requires.full c.requires.place c.args.value
+    (map g.P.Part.entries (parts_of c.in_ok-grown.grown)) (map (λ p. g.P.Part.entries (arc_value p)) c.in_ok-made.made.items) (rw e c.in_ok-grown.ensures.parts)
+    (map_of_parts g.P.Part.entries arc_value c.args.parts.now c.args.at (parts_of c.in_ok-grown.grown) c.in_ok-made.made.items c.in_ok-made.ensures.parts)
+
+pub returns-clause-found : goal.returns-clause-found
+returns-clause-found g c =
+    found_here g.K.Ord.cmp g.met.K.Ord.total c.args.key c.args.value (λ p. g.P.Part.entries (arc_value p)) c.args.parts.now c.args.at c.index-parts-at.result c.index-parts-at.result
+    c.requires.sorted c.requires.full c.requires.place c.index-parts-at.is c.in_ok-grown.found (rw c.deref.ensures at c.in_ok-grown.ensures.found)

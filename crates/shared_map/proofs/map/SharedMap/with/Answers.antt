@@ -8,18 +8,18 @@ use Rattle.shared_map.proofs.map.SharedMap.with.Goals as goal
 
 pub invariant_of-result : goal.invariant_of-result
 invariant_of-result g c =
-    map_put g.K.Ord.cmp g.met.K.Ord.total c.args.key c.args.value (map arc_value (nodes_in c.self.inside.nodes)) (map arc_value c.in_ok-nodes.nodes.items) c.self.inside.count c.in_ok-count.count c.is_some.result c.get.result
-    c.self.invariant (rw c.nodes_of.ensures at c.in_ok-nodes.ensures) (rw c.self.view_is c.get.ensures) c.is_some.ensures c.in_ok-count.ensures
+    map_put g.K.Ord.cmp g.met.K.Ord.total c.args.key c.args.value (map arc_value (nodes_in c.self.inside.nodes)) (map arc_value c.in_ok-nodes.nodes.items) c.self.inside.count c.in_ok-count.count c.in_ok-nodes.found
+    c.self.invariant (rw c.nodes_of.ensures at c.in_ok-nodes.ensures.changed) (rw c.nodes_of.ensures at c.in_ok-nodes.ensures.found) c.in_ok-count.ensures
 
 pub returns-clause-at_key : goal.returns-clause-at_key
 returns-clause-at_key g c =
-    rw (c.in_ok-nodes.ensures.whole, c.nodes_of.ensures, c.self.view_is) (found_at_key g.K.Ord.cmp g.met.K.Ord.total c.args.key c.args.value c.args.self.now)
+    rw (c.in_ok-nodes.ensures.changed.whole, c.nodes_of.ensures, c.self.view_is) (found_at_key g.K.Ord.cmp g.met.K.Ord.total c.args.key c.args.value c.args.self.now)
 
 pub returns-clause-elsewhere : goal.returns-clause-elsewhere
 returns-clause-elsewhere g c = λ q n.
-    rw (c.in_ok-nodes.ensures.whole, c.nodes_of.ensures, c.self.view_is) (found_elsewhere g.K.Ord.cmp g.met.K.Ord.total q c.args.key c.args.value c.args.self.now n)
+    rw (c.in_ok-nodes.ensures.changed.whole, c.nodes_of.ensures, c.self.view_is) (found_elsewhere g.K.Ord.cmp g.met.K.Ord.total q c.args.key c.args.value c.args.self.now n)
 
 pub returns-clause-in_order : goal.returns-clause-in_order
 returns-clause-in_order g c =
-    rw (c.in_ok-nodes.ensures.whole, c.nodes_of.ensures)
+    rw (c.in_ok-nodes.ensures.changed.whole, c.nodes_of.ensures)
     (put_in_order g.K.Ord.cmp g.met.K.Ord.total c.args.key c.args.value (joined (map arc_value (nodes_in c.self.inside.nodes))) c.self.invariant.sorted)

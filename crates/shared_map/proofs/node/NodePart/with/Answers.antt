@@ -1,5 +1,4 @@
 use Rattle.std.proofs.Common.{map, ◌≡◌, refl}
-use Rattle.std.proofs.lemmas.Result.{IfOk-weaker}
 use Rattle.std.specs.Arc.{arc_value}
 use Rattle.std.specs.FinMap.{put}
 use Rattle.shared_map.specs.Blocks.{joined}
@@ -13,8 +12,8 @@ nodes_of-requires-clause-sorted g c =
     rw (c.in_ok-leaves.ensures.parts.whole, c.deref-3.ensures.value)
     (put_sorted g.K.Ord.cmp g.met.K.Ord.total c.args.key c.args.value (joined (map arc_value c.self.inside.leaves.items)) c.self.invariant.sorted)
 
-pub returns : goal.returns
-returns g c =
+pub returns-clause-parts : goal.returns-clause-parts
+returns-clause-parts g c =
     let whole : joined (map arc_value c.in_ok-leaves.leaves.items) ≡ put g.K.Ord.cmp c.args.key c.args.value c.args.self.now =
     rw (c.in_ok-leaves.ensures.parts.whole, c.deref-3.ensures.value, c.self.view_is) refl in
-    IfOk-weaker c.nodes_of.result _ _ (λ h same. rw (map_same (parts_of h), ← whole) same) c.nodes_of.ensures
+    rw (map_same (parts_of c.in_ok-nodes.nodes), ← whole) c.in_ok-nodes.ensures
