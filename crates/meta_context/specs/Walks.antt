@@ -1,3 +1,4 @@
+-- Inner: how `depends` works; no public clause cites this.
 -- A walk through terms and the metavariables in them: the handles that are left to be looked at, all handles that have entered, and of
 -- which metavariables the context, the type and the value have entered.
 use Rattle.std.specs.Prelude.{◌≡◌, ◌≢◌, ◌≤◌, ◌+◌, ◌⊎◌, ℕ, List, [], ◌∷◌, ◌++◌, map, All, Contains, sum_by, slice_get, slice_index_or, Bool, true, false, None, Some, option_to_list}

@@ -1,4 +1,4 @@
-ghost use Rattle.std.specs.Prelude.{◌≡◌, ◌∷◌, ◌-◌, ◌<◌, [], IfOk, IfSome, length, slice_get, reverse, option_copied};
+ghost use Rattle.std.specs.Prelude.{◌≡◌, ◌∷◌, ◌-◌, ◌<◌, [], IfOk, length, slice_get, reverse, option_copied};
 ghost use Rattle.ld_terms.specs.Items.{item_named};
 ghost use Rattle.meta_context.specs.Entered.{AreEntered, MayEnter};
 

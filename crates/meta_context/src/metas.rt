@@ -73,7 +73,7 @@ impl<H: Copy> Metas<H> {
     }
 
     /// The metavariable context with one more declaration. This one stays as it was. Fails for want of memory alone.
-    pub fn push(&self, alloc: Global, decl: Decl<H>) -> Result<Metas<H>, AllocError>
+    pub(crate) fn push(&self, alloc: Global, decl: Decl<H>) -> Result<Metas<H>, AllocError>
         requires room { length self.now < 65536 }
         requires names { IsContext (names_of decl.ctx) }
         ensures { IfOk result (λ m. m ≡ self.now ++ decl ∷ []) }
@@ -85,7 +85,7 @@ impl<H: Copy> Metas<H> {
     }
 
     /// The metavariable context in which a metavariable has a value. This one stays as it was. Fails for want of memory alone.
-    pub fn with_value(&self, alloc: Global, m: u32, value: H) -> Result<Metas<H>, AllocError>
+    pub(crate) fn with_value(&self, alloc: Global, m: u32, value: H) -> Result<Metas<H>, AllocError>
         requires { m < length self.now }
         ensures { IfOk result (λ n. n ≡ assigned m value self.now) }
     {
