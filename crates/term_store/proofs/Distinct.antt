@@ -1,7 +1,7 @@
 -- Where each node stands once, each tree has one place.
 use Rattle.std.proofs.Common.{◌≡◌, ℕ, ◌+◌, ◌<◌, ◌≤◌, List, [], ◌∷◌, length, refl, ap, sym, ◌∙◌, arith, get_or, map, All, zero, suc}
 use Rattle.std.proofs.lemmas.Grind.{common_steps}
-use Rattle.ld_trees.specs.Term.{Term, Terms}
+use Rattle.ld_trees.specs.Term.{Term}
 use Rattle.ld_terms.specs.Views.{terms_of}
 use Rattle.ld_terms.proofs.Arguments.{terms_of_same}
 use Rattle.ld_terms.specs.Nodes.{tree_at, tree_over, trees_of, IsBelow, AreOrdered, IsPlace, tree_of_place}

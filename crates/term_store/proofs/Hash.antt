@@ -1,11 +1,12 @@
 -- A hashed store, and a further node.
 use Rattle.std.proofs.Common.{◌≡◌, ◌≢◌, ℕ, ◌+◌, ◌<◌, ◌≤◌, List, [], ◌∷◌, ◌++◌, length, refl, ap, sym, ◌∙◌, arith, get_or, take, Some, None, cond, subst, ◌⊎◌, inl, inr, length-append}
-use Rattle.std.specs.Prelude.{true, false, is_some, Result, Ok, Err, IfErr}
+use Rattle.std.specs.Prelude.{true, false, is_some, min, Result, Ok, Err, IfErr}
 use Rattle.std.proofs.lemmas.Grind.{common_steps}
 use Rattle.std.proofs.lemmas.Cmp.{tied_itself}
+use Rattle.std.proofs.lemmas.List.{length-take, length-take-le, take_all}
 use Rattle.std.specs.FinMap.{find, put, is_sorted, IsAntisymmetric}
 use Rattle.std.specs.FinMap.Entries.{find-put, length-put}
-use Rattle.std.specs.Ordering.{nat_cmp, eq_by_cmp, is_eq}
+use Rattle.std.specs.Ordering.{eq_by_cmp, is_eq}
 use Rattle.std.specs.Cmp.{IsTotalOrder}
 use Rattle.std.specs.declared.cmp.Ordering.{Ordering}
 use Rattle.std.specs.declared.cmp.Ordering.TheVariants.{Less, Equal, Greater}
@@ -18,8 +19,8 @@ use Rattle.ld_terms.specs.declared.node.Place.{Place}
 use Rattle.ld_terms.specs.declared.size.Size.{Size}
 use Rattle.ld_terms.specs.declared.tree_terms.Entry.{Entry}
 use Rattle.ld_terms.proofs.EntryLaws.{entries_push, entry_at, nodes_in-push, length-nodes_in}
-use Rattle.term_store.specs.Hashed.{rows_of, entries_of, nodes_of, AreKnown, AreSizesBelow, IsHashed}
-use Rattle.term_store.proofs.Rows.{length-rows, rows_put, table_put, take_same, take_more, length_put, size_at}
+use Rattle.term_store.specs.Hashed.{entries_of, nodes_of, AreKnown, AreSizesBelow, IsHashed}
+use Rattle.term_store.proofs.Rows.{size_at}
 use Rattle.term_store.proofs.Distinct.{IsOnce, tree_here}
 
 same_place : (p q : Place) → Some p ≡ Some q → p ≡ q
@@ -34,11 +35,15 @@ last_or i n h = grind arith
 not_none : (p : Place) → Some p ≢ None
 not_none p e = absurd (cc)
 
-length-take : (xs : List Entry) (n : ℕ) → n ≤ length xs → length (take n xs) ≡ n
-length-take xs n le = grind (arith, common_steps)
-
 take_get : (xs : List Entry) (n i : ℕ) (d : Entry) → i < n → n ≤ length xs → get_or (take n xs) i d ≡ get_or xs i d
 take_get xs n i d lt le = grind (arith, common_steps)
+
+-- a list that begins as another one does is as long as that beginning
+as_long : (xs ys : List Entry) (n : ℕ) → n ≤ length xs → take n ys ≡ take n xs → n ≤ length ys
+as_long xs ys n le e =
+    let k : length (take n ys) ≡ n = ap length e ∙ length-take-le n xs le in
+    let m : length (take n ys) ≡ min n (length ys) = length-take n ys in
+    omega (arith, k, m)
 
 is_equal : (o : Ordering) → is_eq o ≡ true → o ≡ Equal
 is_equal Less e = absurd (cc)
@@ -65,64 +70,52 @@ module _ (R : Node → Node → Ordering) where
       let t = (tree_here ns p o k.0).0 in
       (k.0, ap (tree_over (trees_of ns)) (sym k.1) ∙ t)
 
-  pub length-entries : (ids : List (Node × Place)) (es : List (ℕ × Entry)) → IsHashed R ids es → length (entries_of ids es) ≡ length ids
-  length-entries ids es h = let l : length (rows_of es) ≡ length es = length-rows es in length-take (rows_of es) (length ids) (omega (arith, h.enough))
+  pub length-entries : (ids : List (Node × Place)) (rows : List Entry) → IsHashed R ids rows → length (entries_of ids rows) ≡ length ids
+  length-entries ids rows h = length-take-le (length ids) rows h.enough
 
-  pub length-nodes : (ids : List (Node × Place)) (es : List (ℕ × Entry)) → IsHashed R ids es → length (nodes_of ids es) ≡ length ids
-  length-nodes ids es h = length-nodes_in (entries_of ids es) ∙ length-entries ids es h
+  pub length-nodes : (ids : List (Node × Place)) (rows : List Entry) → IsHashed R ids rows → length (nodes_of ids rows) ≡ length ids
+  length-nodes ids rows h = length-nodes_in (entries_of ids rows) ∙ length-entries ids rows h
 
   -- a row that counts is an entry
-  pub entry_of_row : (ids : List (Node × Place)) (es : List (ℕ × Entry)) (i : ℕ) (e : Entry) → IsHashed R ids es → i < length ids → e ≡ get_or (rows_of es) i e → e ≡ get_or (entries_of ids es) i e
-  entry_of_row ids es i e h lt is =
-      let l : length (rows_of es) ≡ length es = length-rows es in
-      is ∙ sym (take_get (rows_of es) (length ids) i e lt (omega (arith, h.enough)))
+  pub entry_of_row : (ids : List (Node × Place)) (rows : List Entry) (i : ℕ) (e : Entry) → IsHashed R ids rows → i < length ids → e ≡ get_or rows i e → e ≡ get_or (entries_of ids rows) i e
+  entry_of_row ids rows i e h lt is = is ∙ sym (take_get rows (length ids) i e lt h.enough)
 
   -- the rows that count have the sizes of their trees
-  pub sizes_below : (ids : List (Node × Place)) (es : List (ℕ × Entry)) → IsHashed R ids es → AreSizesBelow (length ids) (trees_of (nodes_of ids es)) (rows_of es)
-  sizes_below ids es h = record {
-    each = λ i d lt.
-        let l : length (rows_of es) ≡ length es = length-rows es in
-        rw (← take_get (rows_of es) (length ids) i d lt (omega (arith, h.enough))) (h.entries.sizes.each i d (omega (arith, length-entries ids es h)));
+  pub sizes_below : (ids : List (Node × Place)) (rows : List Entry) → IsHashed R ids rows → AreSizesBelow (length ids) (trees_of (nodes_of ids rows)) rows
+  sizes_below ids rows h = record {
+    each = λ i d lt. rw (← take_get rows (length ids) i d lt h.enough) (h.entries.sizes.each i d (omega (arith, length-entries ids rows h)));
   }
 
   -- what a row says of its place
-  pub row_within : (ids : List (Node × Place)) (es : List (ℕ × Entry)) (ns : List Node) (i : ℕ) → IsHashed R ids es → nodes_of ids es ≡ ns → i < length ns → i < length es
-  row_within ids es ns i h v lt =
-      let k : length (nodes_of ids es) ≡ length ns = ap length v in
-      omega (arith, length-nodes ids es h, h.enough)
+  pub row_within : (ids : List (Node × Place)) (rows : List Entry) (ns : List Node) (i : ℕ) → IsHashed R ids rows → nodes_of ids rows ≡ ns → i < length ns → i < length rows
+  row_within ids rows ns i h v lt =
+      let k : length (nodes_of ids rows) ≡ length ns = ap length v in
+      omega (arith, length-nodes ids rows h, h.enough)
 
-  pub row_read : (ids : List (Node × Place)) (es : List (ℕ × Entry)) (ns : List Node) (p : Place) (e : Entry) → IsHashed R ids es → nodes_of ids es ≡ ns → p.0 < length ns → e ≡ get_or (rows_of es) p.0 e →
+  pub row_read : (ids : List (Node × Place)) (rows : List Entry) (ns : List Node) (p : Place) (e : Entry) → IsHashed R ids rows → nodes_of ids rows ≡ ns → p.0 < length ns → e ≡ get_or rows p.0 e →
       (tree_over (trees_of ns) e.node ≡ tree_of_place ns p) × IsBelow (length ns) e.node
-  row_read ids es ns p e h v lt is =
-      let k : length (nodes_of ids es) ≡ length ns = ap length v in
-      entry_at (entries_of ids es) ns p e v h.entries lt (entry_of_row ids es p.0 e h (omega (arith, length-nodes ids es h)) is)
+  row_read ids rows ns p e h v lt is =
+      let k : length (nodes_of ids rows) ≡ length ns = ap length v in
+      entry_at (entries_of ids rows) ns p e v h.entries lt (entry_of_row ids rows p.0 e h (omega (arith, length-nodes ids rows h)) is)
 
-  pub size_read : (ids : List (Node × Place)) (es : List (ℕ × Entry)) (ns : List Node) (p : Place) (e : Entry) (z : Size) → IsHashed R ids es → nodes_of ids es ≡ ns → p.0 < length ns → e ≡ get_or (rows_of es) p.0 e → z ≡ e.size →
+  pub size_read : (ids : List (Node × Place)) (rows : List Entry) (ns : List Node) (p : Place) (e : Entry) (z : Size) → IsHashed R ids rows → nodes_of ids rows ≡ ns → p.0 < length ns → e ≡ get_or rows p.0 e → z ≡ e.size →
       IsSize (tree_of_place ns p) z
   unfolding IsPlace tree_of_place
-  size_read ids es ns p e z h v lt is eq =
-      let k : length (nodes_of ids es) ≡ length ns = ap length v in
-      subst (λ (ns : List Node). IsSize (tree_at (trees_of ns) p) z) v (size_at (length ids) (trees_of (nodes_of ids es)) es p e z (sizes_below ids es h) (omega (arith, length-nodes ids es h)) is eq)
+  size_read ids rows ns p e z h v lt is eq =
+      let k : length (nodes_of ids rows) ≡ length ns = ap length v in
+      subst (λ (ns : List Node). IsSize (tree_at (trees_of ns) p) z) v (size_at (length ids) (trees_of (nodes_of ids rows)) rows p e z (sizes_below ids rows h) (omega (arith, length-nodes ids rows h)) is eq)
 
-  -- with a row put at the first place that doesn't count
-  pub hashed_row : (ids : List (Node × Place)) (es : List (ℕ × Entry)) (v : Entry) → IsHashed R ids es →
-      IsHashed R ids (put nat_cmp (length ids) v es) × (entries_of ids (put nat_cmp (length ids) v es) ≡ entries_of ids es)
-  hashed_row ids es v h =
-      let l : length (rows_of es) ≡ length es = length-rows es in
-      let same : entries_of ids (put nat_cmp (length ids) v es) ≡ entries_of ids es =
-      ap (take (length ids)) (rows_put es (length ids) v h.numbered h.enough) ∙ take_same (rows_of es) (length ids) v (omega (arith, h.enough)) in (
-        record {
-          numbered = table_put es (length ids) v h.numbered h.enough;
-          enough = omega (arith, length_put es (length ids) v h.numbered h.enough);
-          entries = rw same h.entries;
-          places = rw same h.places;
-        },
-        same,
-      )
-
-  -- such a row changes no node
-  pub same_nodes : (ids : List (Node × Place)) (es : List (ℕ × Entry)) (v : Entry) → IsHashed R ids es → nodes_of ids (put nat_cmp (length ids) v es) ≡ nodes_of ids es
-  same_nodes ids es v h = ap nodes_in (hashed_row ids es v h).1
+  -- other rows behind those that count change no node
+  pub hashed_same : (ids : List (Node × Place)) (rows later : List Entry) → IsHashed R ids rows → take (length ids) later ≡ take (length ids) rows →
+      IsHashed R ids later × (nodes_of ids later ≡ nodes_of ids rows)
+  hashed_same ids rows later h same = (
+    record {
+      enough = as_long rows later (length ids) h.enough same;
+      entries = rw same h.entries;
+      places = rw same h.places;
+    },
+    ap nodes_in same,
+  )
 
   module _ (o : IsTotalOrder R) (exact : IsAntisymmetric R) where
     module _ (ids : List (Node × Place)) (ns : List Node) (m : Node) (p : Place) (h : AreKnown R ids ns) (new : find R m ids ≡ None) (at : p.0 ≡ length ns) where
@@ -162,24 +155,23 @@ module _ (R : Node → Node → Ordering) where
         once = λ n d q e. let k = once' n d q e in (omega (arith, length-append ns (m ∷ []), k.0), k.1);
       }
 
-    module _ (ids : List (Node × Place)) (es : List (ℕ × Entry)) (v : Entry) (p : Place) (h : IsHashed R ids es) (s : is_sorted R ids ≡ true) (new : find R v.node ids ≡ None) (at : p.0 ≡ length ids) where
+    module _ (ids : List (Node × Place)) (rows later : List Entry) (v : Entry) (p : Place) (h : IsHashed R ids rows) (l : later ≡ take (length ids) rows ++ v ∷ []) (s : is_sorted R ids ≡ true) (new : find R v.node ids ≡ None) (at : p.0 ≡ length ids) where
       longer : length (put R v.node p ids) ≡ length ids + 1
       longer = length-put R o v.node p ids (rw s tt) ∙ ap (λ r. cond (is_some r) (length ids) (length ids + 1)) new
 
-      entries_added : entries_of (put R v.node p ids) (put nat_cmp (length ids) v es) ≡ entries_of ids es ++ v ∷ []
-      entries_added =
-          let l : length (rows_of es) ≡ length es = length-rows es in
-          ap (take (length (put R v.node p ids))) (rows_put es (length ids) v h.numbered h.enough)
-          ∙ take_more (rows_of es) (length ids) (length (put R v.node p ids)) v (omega (arith, h.enough)) longer
+      long : length later ≡ length ids + 1
+      long = ap length l ∙ length-append (take (length ids) rows) (v ∷ []) ∙ ap (λ n. n + 1) (length-entries ids rows h)
 
-      pub nodes_added : nodes_of (put R v.node p ids) (put nat_cmp (length ids) v es) ≡ nodes_of ids es ++ v.node ∷ []
-      nodes_added = ap nodes_in entries_added ∙ nodes_in-push (entries_of ids es) v
+      entries_added : entries_of (put R v.node p ids) later ≡ entries_of ids rows ++ v ∷ []
+      entries_added = take_all (length (put R v.node p ids)) later (omega (arith, longer, long)) ∙ l
 
-      pub hashed_added : IsBelow (length (nodes_of ids es)) v.node → IsSize (tree_over (trees_of (nodes_of ids es)) v.node) v.size →
-          IsHashed R (put R v.node p ids) (put nat_cmp (length ids) v es)
+      pub nodes_added : nodes_of (put R v.node p ids) later ≡ nodes_of ids rows ++ v.node ∷ []
+      nodes_added = ap nodes_in entries_added ∙ nodes_in-push (entries_of ids rows) v
+
+      pub hashed_added : IsBelow (length (nodes_of ids rows)) v.node → IsSize (tree_over (trees_of (nodes_of ids rows)) v.node) v.size →
+          IsHashed R (put R v.node p ids) later
       hashed_added b z = record {
-        numbered = table_put es (length ids) v h.numbered h.enough;
-        enough = omega (arith, longer, length_put es (length ids) v h.numbered h.enough);
-        entries = rw entries_added (entries_push (entries_of ids es) v h.entries b z);
-        places = rw nodes_added (known_push ids (nodes_of ids es) v.node p h.places new (at ∙ sym (length-nodes ids es h)));
+        enough = omega (arith, longer, long);
+        entries = rw entries_added (entries_push (entries_of ids rows) v h.entries b z);
+        places = rw nodes_added (known_push ids (nodes_of ids rows) v.node p h.places new (at ∙ sym (length-nodes ids rows h)));
       }

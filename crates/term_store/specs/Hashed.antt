@@ -1,8 +1,7 @@
--- A store whose nodes stand once each: a map that has the place of each node, and a map that has the entry at each place.
-use Rattle.std.specs.Prelude.{◌≡◌, ℕ, ◌<◌, ◌≤◌, List, map, take, length, Some, slice_index_or}
+-- A store whose nodes stand once each: a map that has the place of each node, and a list that has the entry at each place.
+use Rattle.std.specs.Prelude.{◌≡◌, ℕ, ◌<◌, ◌≤◌, List, take, length, Some, slice_index_or}
 use Rattle.std.specs.FinMap.{find}
 use Rattle.std.specs.declared.cmp.Ordering.{Ordering}
-use Rattle.shared_map.specs.Table.{table}
 use Rattle.ld_trees.specs.Term.{Term, Star}
 use Rattle.ld_terms.specs.Sizes.{IsSize}
 use Rattle.ld_terms.specs.Entries.{nodes_in, AreEntries}
@@ -15,17 +14,13 @@ use Rattle.ld_terms.specs.declared.tree_terms.Entry.{Entry}
 abbrev pub entry_of : Node → Size → Entry
 entry_of n z = record { node = n; size = z }
 
--- the rows of a map from numbers, in order
-abbrev pub rows_of : List (ℕ × Entry) → List Entry
-rows_of es = map (λ e. e.1) es
-
 -- The rows that count: as many as there are nodes with a place. A row behind them is left over from a call that failed.
-abbrev pub entries_of : List (Node × Place) → List (ℕ × Entry) → List Entry
-entries_of ids es = take (length ids) (rows_of es)
+abbrev pub entries_of : List (Node × Place) → List Entry → List Entry
+entries_of ids rows = take (length ids) rows
 
 -- the nodes of a store, in the order of their places
-abbrev pub nodes_of : List (Node × Place) → List (ℕ × Entry) → List Node
-nodes_of ids es = nodes_in (entries_of ids es)
+abbrev pub nodes_of : List (Node × Place) → List Entry → List Node
+nodes_of ids rows = nodes_in (entries_of ids rows)
 
 -- each node is found with its place, and nothing else is found
 pub record AreKnown (R : Node → Node → Ordering) (ids : List (Node × Place)) (ns : List Node) : Type 0 where
@@ -33,12 +28,11 @@ pub record AreKnown (R : Node → Node → Ordering) (ids : List (Node × Place)
   pub once : (n d : Node) (p : Place) → find R n ids ≡ Some p → (p.0 < length ns) × (slice_index_or ns p.0 d ≡ n)
 
 -- each row below place k has the size of the tree there
-pub record AreSizesBelow (k : ℕ) (ts : List Term) (rs : List Entry) : Type 0 where
-  pub each : (i : ℕ) (d : Entry) → i < k → IsSize (slice_index_or ts i Star) (slice_index_or rs i d).size
+pub record AreSizesBelow (k : ℕ) (ts : List Term) (rows : List Entry) : Type 0 where
+  pub each : (i : ℕ) (d : Entry) → i < k → IsSize (slice_index_or ts i Star) (slice_index_or rows i d).size
 
--- the two maps of a store
-pub record IsHashed (R : Node → Node → Ordering) (ids : List (Node × Place)) (es : List (ℕ × Entry)) : Type 0 where
-  pub numbered : table (rows_of es) ≡ es
-  pub enough : length ids ≤ length es
-  pub entries : AreEntries (entries_of ids es)
-  pub places : AreKnown R ids (nodes_of ids es)
+-- the map and the rows of a store
+pub record IsHashed (R : Node → Node → Ordering) (ids : List (Node × Place)) (rows : List Entry) : Type 0 where
+  pub enough : length ids ≤ length rows
+  pub entries : AreEntries (entries_of ids rows)
+  pub places : AreKnown R ids (nodes_of ids rows)

@@ -3,6 +3,8 @@
 
 mod examples;
 mod hash_terms;
+mod key;
+mod row;
 mod shared;
 
 pub use examples::stores_compute;

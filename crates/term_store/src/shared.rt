@@ -1,9 +1,5 @@
-//! What the two maps of a store share.
-
 ghost use Rattle.std.specs.Prelude.{◌≡◌, IfOk};
-ghost use Rattle.term_store.specs.Hashed.{entry_of};
 
-use ld_terms::{Node, Size};
 use std::alloc::{AllocError, Global};
 use std::cmp::Ordering;
 use std::marker::Model;
@@ -88,55 +84,5 @@ impl<X: Ord + Drop> Ord for Shared<X> {
 
     fn cmp(&self, other: &Self) -> Ordering {
         self.get().cmp(other.get())
-    }
-}
-
-/// A shared node with the size of its tree. Contracts see both as one entry.
-#[derive(Drop)]
-pub struct Row {
-    node: Shared<Node>,
-    size: Size,
-}
-
-impl Model for Row {
-    ghost use Rattle.ld_terms.specs.declared.tree_terms.Entry.{Entry};
-    ghost use Rattle.term_store.specs.Hashed.{entry_of};
-
-    ghost Value = { Entry };
-
-    ghost view = { λ r. entry_of r.node r.size };
-}
-
-impl Row {
-    /// A node with its size. Takes no memory.
-    pub fn of(node: Shared<Node>, size: Size) -> Row
-        ensures { result ≡ entry_of node size }
-    {
-        Row { node, size }
-    }
-
-    /// The node.
-    pub fn node(&self) -> &Node
-        ensures { result.now ≡ self.now.node }
-    {
-        self.node.get()
-    }
-
-    /// The size of the node's tree.
-    pub fn size(&self) -> Size
-        ensures { result ≡ self.now.size }
-    {
-        self.size
-    }
-}
-
-impl Clone for Row {
-    ghost is_clone = { λ a b. b ≡ a };
-
-    fn clone(&self) -> Result<Row, AllocError> {
-        Ok(Row {
-            node: self.node.clone()?,
-            size: self.size,
-        })
     }
 }

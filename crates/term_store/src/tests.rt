@@ -4,8 +4,10 @@ ghost use Rattle.std.specs.Prelude.{IfOk};
 ghost use Rattle.ld_terms.specs.Views.{Keeps};
 
 use crate::HashTerms;
+use crate::key::Key;
 use ld_terms::{Name, Terms, TreeTerms, View, same_across, shift, subst_all};
 use std::alloc::{AllocError, Global};
+use std::mem::size_of;
 use std::test::Fail;
 
 /// A product that is made twice: whether both are the same, its nodes and its depth.
@@ -99,6 +101,39 @@ fn a_fork_keeps_handles(rt: HostRuntime) -> Result<(), Fail> {
     assert!(rt; five == six);
     assert!(rt; !same_across(&terms, six, &forked, five));
     assert!(rt; same_across(&terms, constant, &forked, constant));
+    Ok(())
+}
+
+/// The metavariable 3 over one argument.
+fn hole<T: Terms>(alloc: Global, terms: &mut T, arg: T::Handle) -> Result<T::Handle, AllocError>
+    requires { T.holds terms.old arg }
+    ensures held { IfOk result (λ h. T.holds terms.new h) }
+    ensures kept { Keeps (T.holds terms.old) (T.means terms.old) (T.holds terms.new) (T.means terms.new) }
+{
+    let mut args = Vec::new(alloc);
+    args.push(arg)?;
+    terms.make(alloc, View::Meta(3, &args))
+}
+
+#[test]
+fn a_store_stays_when_its_fork_grows(rt: HostRuntime) -> Result<(), Fail> {
+    let mut terms = HashTerms::new(rt.alloc())?;
+    let zero = variable(rt.alloc(), &mut terms, 0)?;
+    let mut forked = terms.fork(rt.alloc())?;
+    let other = hole(rt.alloc(), &mut forked, zero)?;
+    let further = applied(rt.alloc(), &mut forked, other)?;
+    let one = variable(rt.alloc(), &mut terms, 1)?;
+    let own = hole(rt.alloc(), &mut terms, zero)?;
+    assert!(rt; one == other);
+    assert!(rt; own == further);
+    assert!(rt; same_across(&terms, own, &forked, other));
+    assert!(rt; !same_across(&terms, own, &forked, further));
+    Ok(())
+}
+
+#[test]
+fn a_key_is_small(rt: HostRuntime) -> Result<(), Fail> {
+    assert_eq!(rt; size_of::<Key>(), 24);
     Ok(())
 }
 

@@ -1,4 +1,4 @@
-use Rattle.std.proofs.Common.{◌<◌, length, arith, get_or, take, map, subst}
+use Rattle.std.proofs.Common.{◌<◌, length, arith, get_or, take, map}
 use Rattle.ld_terms.specs.Nodes.{tree_at}
 use Rattle.ld_terms.specs.Views.{terms_of}
 use Rattle.ld_terms.specs.declared.node.Place.{Place}
@@ -14,4 +14,4 @@ loop-arg-preserved c = λ ts k b z.
     let place = get_or c.args.args.now i p in
     rw (terms_of_more (tree_at ts) c.args.args.now i p lt)
     (c.with-size.ensures (terms_of (map (tree_at ts) (take i c.args.args.now))) (tree_at ts place) (c.loop-arg.invariant ts k b z)
-    (size_at k ts c.args.entries.now place c.row_at.result.now c.size.result z (b i p lt) c.row_at.ensures c.size.ensures))
+    (size_at k ts c.args.rows.now place c.row_at.result.now c.size.result z (b i p lt) c.row_at.ensures c.size.ensures))

@@ -7,11 +7,11 @@ use Rattle.term_store.proofs.hash_terms.HashTermsTerms.node.Goals as goal
 pub returns-clause-tree : goal.returns-clause-tree
 unfolding IsPlace tree_of_place
 returns-clause-tree c =
-    c.view.ensures.tree (trees_of c.args.self.now) ∙ ap (tree_over (trees_of c.args.self.now)) c.node.ensures
-    ∙ (row_read node_cmp c.self.inside.ids c.self.inside.entries c.args.self.now c.args.h c.row_at.result.now c.self.invariant c.self.view_is c.requires c.row_at.ensures).0
+    c.view.ensures.tree (trees_of c.args.self.now) ∙ ap (tree_over (trees_of c.args.self.now)) c.key.ensures
+    ∙ (row_read node_cmp c.self.inside.ids c.self.inside.rows c.args.self.now c.args.h c.row_at.result.now c.self.invariant c.self.view_is c.requires c.row_at.ensures).0
 
 pub returns-clause-held : goal.returns-clause-held
 unfolding IsPlace tree_of_place
 returns-clause-held c =
     c.view.ensures.below (length c.args.self.now)
-    (rw c.node.ensures (row_read node_cmp c.self.inside.ids c.self.inside.entries c.args.self.now c.args.h c.row_at.result.now c.self.invariant c.self.view_is c.requires c.row_at.ensures).1)
+    (rw c.key.ensures (row_read node_cmp c.self.inside.ids c.self.inside.rows c.args.self.now c.args.h c.row_at.result.now c.self.invariant c.self.view_is c.requires c.row_at.ensures).1)
