@@ -3,6 +3,8 @@ pub mod Means
 pub mod Work
 pub mod Rounds
 pub mod Settling
+pub mod Changes
 pub mod Following
 pub mod Starts
 pub mod Rooted
+pub mod Declared

@@ -6,5 +6,6 @@ pub mod Starting
 pub mod Answers
 pub mod Rounds
 pub mod Settling
+pub mod Changes
 pub mod Laws
 pub mod Examples

@@ -1,4 +1,4 @@
--- What so many rounds of unfolding give, and from how many rounds on it stays so.
+-- What so many rounds of unfolding give, and from how many rounds on it stays so. Inner: how unfolding works; no public clause cites this.
 use Rattle.std.specs.Prelude.{◌≡◌, ℕ, ◌+◌, ◌≤◌, max, Option, Some, None, option_map, IfSome}
 use Rattle.std.specs.BTreeMap.{BTreeMap, get}
 use Rattle.std.specs.declared.cmp.Ordering.{Ordering}

@@ -5,6 +5,7 @@
 //! state are legal is a fact of the type [`GoalState`]. So the value of a solved state has the type that the state was started with.
 #![tactic(auto)]
 
+mod changing;
 mod examples;
 mod fault;
 mod goals;
@@ -23,3 +24,5 @@ pub use unfolding::unfold_metas;
 
 #[cfg(test)]
 mod tests;
+#[cfg(test)]
+mod value_tests;

@@ -1,19 +1,18 @@
-ghost use Rattle.std.specs.Prelude.{◌≡◌, ◌∷◌, [], IfOk, Some};
+ghost use Rattle.std.specs.Prelude.{◌≡◌, IfOk};
 ghost use Rattle.ld_trees.specs.Term.{Star, Var, Lam, Pi};
 ghost use Rattle.ld_rules.specs.Examples as plain;
 ghost use Rattle.ld_terms.specs.Views.{Keeps};
 
 use crate::fault::StartFault;
 use crate::state::GoalState;
-use crate::unfolding::unfold_metas;
 use kernel_check::KernelFault;
-use ld_terms::{Decl, Fuel, List, Terms, TreeTerms, View};
-use meta_context::{Env, Metas};
+use ld_terms::{Fuel, Terms, TreeTerms, View};
+use meta_context::Env;
 use std::alloc::{AllocError, Global};
 use std::test::Fail;
 
 /// `*`.
-fn star<T: Terms>(alloc: Global, terms: &mut T) -> Result<T::Handle, AllocError>
+pub(crate) fn star<T: Terms>(alloc: Global, terms: &mut T) -> Result<T::Handle, AllocError>
     ensures tree { IfOk result (λ h. T.means terms.new h ≡ Star) }
     ensures held { IfOk result (λ h. T.holds terms.new h) }
     ensures kept { Keeps (T.holds terms.old) (T.means terms.old) (T.holds terms.new) (T.means terms.new) }
@@ -39,7 +38,7 @@ fn variable<T: Terms>(alloc: Global, terms: &mut T, i: u32) -> Result<T::Handle,
 }
 
 /// A product.
-fn product<T: Terms>(
+pub(crate) fn product<T: Terms>(
     alloc: Global,
     terms: &mut T,
     a: T::Handle,
@@ -185,69 +184,5 @@ fn a_deep_type_is_refused_before_any_unit(rt: HostRuntime) -> Result<(), Fail> {
     let most = deep(alloc, &mut terms, 4_096)?;
     let short = start(alloc, &mut terms, &mut fuel, most);
     assert!(rt; matches!(short, Err(StartFault::Kernel(KernelFault::Fuel))));
-    Ok(())
-}
-
-/// A metavariable over the empty context with a type and a value.
-fn assigned<H: Copy>(alloc: Global, ty: H, value: H) -> Decl<H>
-    ensures ctx { result.ctx ≡ [] }
-    ensures ty { result.ty ≡ ty }
-    ensures value { result.value ≡ Some value }
-{
-    Decl {
-        ctx: List::of(Vec::new(alloc)),
-        ty,
-        value: Some(value),
-    }
-}
-
-/// One metavariable over the empty context.
-fn one<H: Copy>(alloc: Global, decl: Decl<H>) -> Result<Metas<H>, AllocError>
-    requires { decl.ctx ≡ [] }
-    ensures { IfOk result (λ ms. ms ≡ decl ∷ []) }
-{
-    let none = Metas::new();
-    let metas = none.push(alloc, decl)?;
-    Ok(metas)
-}
-
-/// A metavariable without arguments.
-fn hole<T: Terms>(alloc: Global, terms: &mut T, m: u32) -> Result<T::Handle, AllocError>
-    ensures held { IfOk result (λ h. T.holds terms.new h) }
-    ensures kept { Keeps (T.holds terms.old) (T.means terms.old) (T.holds terms.new) (T.means terms.new) }
-{
-    terms.make(alloc, View::Meta(m, &[]))
-}
-
-/// Two metavariables over the empty context.
-fn two<H: Copy>(alloc: Global, first: Decl<H>, second: Decl<H>) -> Result<Metas<H>, AllocError>
-    requires first { first.ctx ≡ [] }
-    requires second { second.ctx ≡ [] }
-    ensures { IfOk result (λ ms. ms ≡ first ∷ second ∷ []) }
-{
-    let one = one(alloc, first)?;
-    let metas = one.push(alloc, second)?;
-    Ok(metas)
-}
-
-/// Whether `?0[]` unfolds to `* -> *`, where ?0 := ?1[] -> ?1[] and ?1 := *.
-fn unfolds_again<T: Terms>(alloc: Global, terms: &mut T) -> Result<bool, AllocError> {
-    let star = star(alloc, terms)?;
-    let inner = hole(alloc, terms, 1)?;
-    let arrow = product(alloc, terms, inner, inner)?;
-    let root = hole(alloc, terms, 0)?;
-    let first = assigned(alloc, star, arrow);
-    let second = assigned(alloc, star, star);
-    let metas = two(alloc, first, second)?;
-    let found = unfold_metas(alloc, terms, &metas, root)?;
-    let wanted = product(alloc, terms, star, star)?;
-    Ok(terms.same(found, wanted))
-}
-
-#[test]
-fn values_are_unfolded_in_values(rt: HostRuntime) -> Result<(), Fail> {
-    let alloc = rt.alloc();
-    let mut terms = TreeTerms::new(alloc)?;
-    assert!(rt; unfolds_again(alloc, &mut terms)?);
     Ok(())
 }

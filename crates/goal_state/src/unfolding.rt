@@ -1,6 +1,6 @@
 ghost use Rattle.std.specs.Prelude.{◌≡◌, ◌-◌, ◌+◌, ◌<◌, ◌≤◌, ◌^◌, All, IfOk, IfSome, OnOk, map, length, option_map, Some};
 ghost use Rattle.std.specs.BTreeMap.{get};
-ghost use Rattle.ld_trees.specs.Term.{Term, Numbered, Meta};
+ghost use Rattle.ld_trees.specs.Term.{Term, Numbered, Const, Meta};
 ghost use Rattle.ld_rules.specs.Expansion.{expanded};
 ghost use Rattle.ld_terms.specs.Views.{Keeps, terms_of};
 ghost use Rattle.conversion.specs.Globals.{IsDeclOf};
@@ -10,7 +10,8 @@ ghost use Rattle.goal_state.specs.Rounds.{unfolded, unfolded_all, value_for};
 ghost use Rattle.goal_state.specs.Settling as settling;
 ghost use Rattle.goal_state.specs.Settling.{Reaches, AreUnfoldings};
 
-use ld_terms::{Terms, View, subst_all};
+use crate::changing::subst_shared;
+use ld_terms::{Name, Terms, View};
 use meta_context::Metas;
 use std::alloc::{AllocError, Global};
 use std::collections::BTreeMap;
@@ -63,10 +64,7 @@ fn unfold<T: Terms>(
     ensures kept { Keeps (T.holds terms.old) (T.means terms.old) (T.holds terms.new) (T.means terms.new) }
 {
     match terms.node(h) {
-        View::Star | View::Square | View::Var(_) => Ok(Unfolded {
-            term: h,
-            settled: Some(0),
-        }),
+        View::Star | View::Square | View::Var(_) => Ok(leaf(h)),
         _ => unfold_once(alloc, terms, metas, known, rounds, h),
     }
 }
@@ -141,10 +139,8 @@ fn unfold_node<T: Terms>(
     ensures kept { Keeps (T.holds terms.old) (T.means terms.old) (T.holds terms.new) (T.means terms.new) }
 {
     match terms.node(h) {
-        View::Star | View::Square | View::Var(_) => Ok(Unfolded {
-            term: h,
-            settled: Some(0),
-        }),
+        // `unfold` takes these before the table is asked.
+        View::Star | View::Square | View::Var(_) => Ok(leaf(h)),
         View::App(f, a) => {
             let parts = unfold_two(alloc, terms, metas, known, rounds, f, a)?;
             let term = terms.make(alloc, View::App(parts.0, parts.1))?;
@@ -172,18 +168,51 @@ fn unfold_node<T: Terms>(
         View::Const(name, us) => {
             let name = name.copy(alloc)?;
             let us = Vec::from_slice(alloc, us)?;
-            let parts = unfold_each(alloc, terms, metas, known, rounds, &us)?;
-            let term = terms.make(alloc, View::Const(&name, &parts.0))?;
-            Ok(Unfolded {
-                term,
-                settled: parts.1,
-            })
+            unfold_constant(alloc, terms, metas, known, rounds, &name, &us)
         }
         View::Meta(m, us) => {
             let us = Vec::from_slice(alloc, us)?;
             unfold_meta(alloc, terms, metas, known, rounds, m, &us)
         }
     }
+}
+
+/// A leaf, which no round changes.
+fn leaf<H: Copy>(h: H) -> Unfolded<H>
+    ensures term { result.term ≡ h }
+    ensures settled { result.settled ≡ Some 0 }
+{
+    Unfolded {
+        term: h,
+        settled: Some(0),
+    }
+}
+
+/// Unfolds a constant by its arguments.
+#[cycle(unfolding)]
+fn unfold_constant<T: Terms>(
+    alloc: Global,
+    terms: &mut T,
+    metas: &Metas<T::Handle>,
+    known: &mut BTreeMap<T::Handle, (T::Handle, u32)>,
+    rounds: u32,
+    name: &Name,
+    us: &[T::Handle],
+) -> Result<Unfolded<T::Handle>, AllocError>
+    requires list { All (T.holds terms.old) us.now }
+    requires metas { All (IsDeclOf (T.holds terms.old)) metas.now }
+    requires known { AreUnfoldings (T.holds terms.old) (T.means terms.old) (metas_of (T.means terms.old) metas.now) T.Handle.cmp known.old }
+    ensures tree { IfOk result (λ r. Reaches (λ k. unfolded (metas_of (T.means terms.old) metas.now) k (Const name.now (terms_of (map (T.means terms.old) us.now)))) rounds r.settled (T.means terms.new r.term)) }
+    ensures held { IfOk result (λ r. T.holds terms.new r.term) }
+    ensures known { OnOk result (AreUnfoldings (T.holds terms.new) (T.means terms.new) (metas_of (T.means terms.new) metas.now) T.Handle.cmp known.new) }
+    ensures kept { Keeps (T.holds terms.old) (T.means terms.old) (T.holds terms.new) (T.means terms.new) }
+{
+    let parts = unfold_each(alloc, terms, metas, known, rounds, us)?;
+    let term = terms.make(alloc, View::Const(name, &parts.0))?;
+    Ok(Unfolded {
+        term,
+        settled: parts.1,
+    })
 }
 
 /// Unfolds the two parts of a node.
@@ -296,7 +325,7 @@ fn applied<T: Terms>(
     ensures kept { Keeps (T.holds terms.old) (T.means terms.old) (T.holds terms.new) (T.means terms.new) }
 {
     match value {
-        Some(value) => subst_all(alloc, terms, value, us),
+        Some(value) => subst_shared(alloc, terms, value, us),
         None => terms.make(alloc, View::Meta(m, us)),
     }
 }

@@ -1,5 +1,5 @@
 use Rattle.std.proofs.Common.{◌≡◌, ◌+◌, ◌*◌, ◌<◌, ◌≤◌, Some, None, map, length, option_map, Option, refl, sym, ap, ap₂, ◌∙◌, arith, rules}
-use Rattle.ld_trees.specs.Term.{Numbered, Term, Terms}
+use Rattle.ld_trees.specs.Term.{Con, Named, Numbered, Term, Terms}
 use Rattle.ld_rules.specs.Expansion.{expanded}
 use Rattle.ld_terms.proofs.Turns.{keeps_map}
 use Rattle.meta_laws.specs.Unfolding.{values}
@@ -113,34 +113,32 @@ unfold_node-returns-in_ok-term-in-Pi-clause-known g t c =
     let decls = decls_held (holds old) (means old) (holds mid) (means mid) c.in_ok-parts-in-Pi.ensures.kept c.args.metas.now c.requires.metas in
     table_kept (holds mid) (means mid) (holds new) (means new) c.args.metas.now c.in_ok-term-in-Pi.ensures.kept decls g.T.Handle.Ord.cmp c.unfold_two-in-Pi.new.known c.in_ok-parts-in-Pi.ensures.known
 
-pub unfold_node-returns-in_ok-term-in-Const-clause-known : goal.unfold_node-returns-in_ok-term-in-Const-clause-known
-unfold_node-returns-in_ok-term-in-Const-clause-known g t c =
+pub unfold_constant-returns-clause-known : goal.unfold_constant-returns-clause-known
+unfold_constant-returns-clause-known g t c =
     let holds = g.T.Terms.holds in
     let means = g.T.Terms.means in
     let old = c.args.terms.now in
     let mid = c.unfold_each.new.terms in
-    let new = c.make-in-Const.new.self in
-    let decls = decls_held (holds old) (means old) (holds mid) (means mid) c.in_ok-parts-in-Const.ensures.kept c.args.metas.now c.requires.metas in
-    table_kept (holds mid) (means mid) (holds new) (means new) c.args.metas.now c.in_ok-term-in-Const.ensures.kept decls g.T.Handle.Ord.cmp c.unfold_each.new.known c.in_ok-parts-in-Const.ensures.known
+    let new = c.make.new.self in
+    let decls = decls_held (holds old) (means old) (holds mid) (means mid) c.in_ok-parts.ensures.kept c.args.metas.now c.requires.metas in
+    table_kept (holds mid) (means mid) (holds new) (means new) c.args.metas.now c.in_ok-term.ensures.kept decls g.T.Handle.Ord.cmp c.unfold_each.new.known c.in_ok-parts.ensures.known
 
-pub unfold_node-returns-in_ok-term-in-Const-clause-tree : goal.unfold_node-returns-in_ok-term-in-Const-clause-tree
-unfold_node-returns-in_ok-term-in-Const-clause-tree g t c =
+pub unfold_constant-returns-clause-tree : goal.unfold_constant-returns-clause-tree
+unfold_constant-returns-clause-tree g t c =
     let means = g.T.Terms.means in
     let old = c.args.terms.now in
     let mid = c.unfold_each.new.terms in
-    let new = c.make-in-Const.new.self in
+    let new = c.make.new.self in
     let r = c.args.rounds in
     let Σ = metas_of (means old) c.args.metas.now in
-    let parts = c.in_ok-parts-in-Const.parts in
-    let us = terms_of (map (means old) c.in-Const.us.now) in
-    let given = terms_of (map (means old) c.deref.result.now) in
+    let parts = c.in_ok-parts.parts in
+    let a = c.args.name.now in
+    let us = terms_of (map (means old) c.args.us.now) in
     let made = terms_of (map (means mid) parts.0.items) in
-    let vs = terms_of (map (means mid) c.deref-in-Const.result.now) in
-    let reached = made_of (λ (ts : Terms). ts) (λ k. unfolded_all Σ k given) (λ k. unfolded_all Σ k us) r made vs
-    (λ k. ap (λ hs. unfolded_all Σ k (terms_of (map (means old) hs))) (sym (c.deref.ensures.value ∙ c.in_ok-us-in-Const.ensures.items)))
-    (ap (λ hs. terms_of (map (means mid) hs)) c.deref-in-Const.ensures.value) parts.1 c.in_ok-parts-in-Const.ensures.tree in
-    constant_reached Σ r parts.1 c.in-Const.name.now c.in_ok-name-in-Const.name us vs (means old c.args.h) (means new c.in_ok-term-in-Const.term)
-    c.in-Const.ensures.tree c.in_ok-name-in-Const.ensures c.in_ok-term-in-Const.ensures.tree reached
+    let vs = terms_of (map (means mid) c.deref.result.now) in
+    let reached = made_of (λ (ts : Terms). ts) (λ k. unfolded_all Σ k us) (λ k. unfolded_all Σ k us) r made vs (λ k. refl)
+    (ap (λ hs. terms_of (map (means mid) hs)) c.deref.ensures.value) parts.1 c.in_ok-parts.ensures.tree in
+    constant_reached Σ r parts.1 a a us vs (Con (Named a) us) (means new c.in_ok-term.term) refl refl c.in_ok-term.ensures.tree reached
 
 pub unfold_meta-unfold_value-requires : goal.unfold_meta-unfold_value-requires
 unfold_meta-unfold_value-requires g t c κs within =

@@ -23,6 +23,9 @@ decreases-unfold_two g l =
 abbrev pub decreases-unfold_each : goal.decreases-unfold_each
 decreases-unfold_each g l = 8 * rounds_work_all (metas_of (g.T.Terms.means l.terms.now) l.metas.now) l.rounds (terms_of (map (g.T.Terms.means l.terms.now) l.us.now)) + 3
 
+abbrev pub decreases-unfold_constant : goal.decreases-unfold_constant
+decreases-unfold_constant g l = 8 * rounds_work_all (metas_of (g.T.Terms.means l.terms.now) l.metas.now) l.rounds (terms_of (map (g.T.Terms.means l.terms.now) l.us.now)) + 4
+
 abbrev pub decreases-unfold_meta : goal.decreases-unfold_meta
 decreases-unfold_meta g l =
     let Σ = metas_of (g.T.Terms.means l.terms.now) l.metas.now in
