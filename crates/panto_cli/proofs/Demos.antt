@@ -1,5 +1,5 @@
 -- The session of a demo, and what it comes to.
-use Rattle.std.proofs.Common.{◌≡◌, ℕ, ◌≤◌, ◌<◌, ◌^◌, ◌&&◌, inl, inr, Bool, true, false, suc, List, [], ◌∷◌, ◌++◌, length, map, Option, Some, Result, Ok, Err, refl, sym, ap, ◌∙◌, arith, subst}
+use Rattle.std.proofs.Common.{◌≡◌, ℕ, ◌≤◌, ◌^◌, ◌&&◌, inl, inr, Bool, true, false, suc, List, [], ◌∷◌, ◌++◌, length, map, Option, Some, Result, Ok, Err, refl, sym, ap, ◌∙◌, arith, subst}
 use Rattle.std.specs.List.{AllByRecursion, list_all}
 use Rattle.std.specs.Prelude.{IfSome, IfOk}
 use Rattle.pan_io.specs.Faults.{Rose}
@@ -8,7 +8,7 @@ use Rattle.command_set.specs.Values.{value}
 use Rattle.state_tree.specs.declared.work.Entry.{Entry}
 use Rattle.state_tree.specs.declared.work.Gave.{Gave}
 use Rattle.state_tree.specs.declared.work.Gave.TheVariants.{Answer, Memory}
-use Rattle.state_tree.specs.Server.{PlainTree, replies, reply, step, opening, replay}
+use Rattle.state_tree.specs.Server.{PlainTree, replies, step, replay}
 use Rattle.state_tree.specs.TreeModel.{TreeModel}
 use Rattle.state_tree.specs.Enters.{tree_of}
 use Rattle.session_server.specs.Input.{requests_of_input}

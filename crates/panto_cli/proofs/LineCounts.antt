@@ -1,18 +1,15 @@
 -- How many requests the lines of a generated session have.
-use Rattle.std.proofs.Common.{◌≡◌, ℕ, zero, suc, ◌+◌, ◌*◌, ◌%◌, ◌^◌, ◌<◌, ◌≤◌, max, Bool, true, false, not, ◌&&◌, cond, List, [], ◌∷◌, ◌++◌, length, get_or, All, Option, Some, None, Ok, Err, codes, decimal, refl, sym, ap, ◌∙◌, arith, subst, append_assoc, append-nil, length-append, inl, inr, map, ◌/◌, ◌-◌, ◌==◌, take, option_map, option_and_then}
-use Rattle.std.specs.List.{AllByRecursion as ByRecursion, list_all}
-use Rattle.std.specs.Fmt.{digits}
+use Rattle.std.proofs.Common.{◌≡◌, ℕ, zero, suc, ◌+◌, ◌*◌, ◌^◌, ◌<◌, ◌≤◌, Bool, true, false, not, ◌&&◌, cond, List, [], ◌∷◌, ◌++◌, length, get_or, All, Option, Some, None, Ok, Err, codes, decimal, refl, sym, ap, ◌∙◌, arith, subst, append_assoc, length-append, map, ◌-◌, ◌==◌, take, option_map, option_and_then}
+use Rattle.std.specs.List.{AllByRecursion as ByRecursion}
 use Rattle.std.specs.Str.Lines.{strip_carriage_return}
 use Rattle.std.specs.Str.{is_utf8}
 use Rattle.std.proofs.lemmas.List.Elements.{All-from_recursion}
 use Rattle.std.proofs.lemmas.List.Folds.{list_all-append}
-use Rattle.std.proofs.lemmas.List.Concat.{flat_map-append}
-use Rattle.std.proofs.lemmas.Nat.{mod_below}
 use Rattle.std.proofs.lemmas.Bool.{ne_eqb}
-use Rattle.std.proofs.lemmas.Fmt.{decimal_is_IsNumeral, decimal_digit, length-decimal-le}
+use Rattle.std.proofs.lemmas.Fmt.{decimal_is_IsNumeral, decimal_digit}
 use Rattle.std.proofs.lemmas.Str.Parse.{digit_at}
 use Rattle.json.specs.Token.{Token, begin_object, end_object, begin_array, end_array, key, string, number}
-use Rattle.json.specs.Lex.{lex, punctuate, tokens}
+use Rattle.json.specs.Lex.{lex, tokens}
 use Rattle.json.specs.Json as json
 use Rattle.json.specs.Json.{items, members, value}
 use Rattle.json.specs.Print.{ArePrintable, IsNumber, escape_byte, print, print_from}
@@ -22,11 +19,10 @@ use Rattle.serde_json.specs.Data.{Data, Num, put}
 use Rattle.serde_json.specs.Data as kinds
 use Rattle.serde_json.specs.Read.{of_json, of_members, number_of, read}
 use Rattle.pan_io.specs.Text.{is_line_end, lines_of}
-use Rattle.pan_io.specs.History.{IsWhole}
 use Rattle.pan_io.proofs.TextLemmas.{lines_of-line}
 use Rattle.repl_json.specs.OneLine.{is_unbroken}
-use Rattle.repl_json.specs.Json.{if_object, data_of, object_of}
-use Rattle.repl_json.specs.Field.{value_in, whole_number}
+use Rattle.repl_json.specs.Json.{if_object, object_of}
+use Rattle.repl_json.specs.Field.{value_in}
 use Rattle.repl_json.specs.Fields as field
 use Rattle.repl_json.specs.Fields.{try_of}
 use Rattle.repl_json.specs.Command.{command_named, goal_command_named}
@@ -35,8 +31,8 @@ use Rattle.repl_json.specs.Request.{of_payload, payload_of, requests_by, request
 use Rattle.repl_json.specs.declared.command.Command.TheVariants as command
 use Rattle.repl_json.specs.declared.request.Request.{Request}
 use Rattle.session_server.specs.Input.{requests_of_line, requests_of_lines}
-use Rattle.session_maker.specs.Generator.{arrows, chosen, draw, number as drawn, states_before}
-use Rattle.session_maker.specs.Session.{repeated, start_line, move_line, hypothesis, intro_lines, tries_line, print_line, delete_line, round_text, session}
+use Rattle.session_maker.specs.Generator.{arrows}
+use Rattle.session_maker.specs.Session.{repeated, start_line, move_line, hypothesis, intro_lines, tries_line, print_line, delete_line}
 
 -- ---- bytes without a line end
 

@@ -1,7 +1,6 @@
 //! The book that the words name.
 
 ghost use Rattle.std.specs.Prelude.{◌≡◌, ◌≤◌, length, Ok, Err, IfOk, IfErr, option_map};
-ghost use Rattle.pan_io.specs.Whole.{IsBook};
 ghost use Rattle.book_reader.specs.Answers.{ShowsBook};
 ghost use Rattle.book_reader.specs.Book.{BookRefusal};
 ghost use Rattle.reply_text.specs.Members.{object_text};

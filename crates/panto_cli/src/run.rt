@@ -4,7 +4,7 @@ ghost use Rattle.std.specs.Prelude.{◌≡◌, ◌<◌, ◌≤◌, ◌⊎◌, �
 ghost use Rattle.std.specs.Io.KnownBytes.{Keeps};
 ghost use Rattle.pan_io.specs.Books.{NamedBytes};
 ghost use Rattle.pan_io.specs.Faults.{Rose};
-ghost use Rattle.command_line.specs.Form.{Command, form_of, run};
+ghost use Rattle.command_line.specs.Form.{form_of, run};
 ghost use Rattle.command_line.specs.Given.{Text};
 ghost use Rattle.command_line.specs.Range.{IsInRange};
 ghost use Rattle.command_line.specs.Seen.{seen};

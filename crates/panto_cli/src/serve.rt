@@ -4,12 +4,10 @@ ghost use Rattle.std.specs.Prelude.{◌≡◌, ◌≤◌, ◌⊎◌, ℕ, List, 
 ghost use Rattle.command_line.specs.Form.{form_of, serve};
 ghost use Rattle.command_line.specs.Range.{IsInRange};
 ghost use Rattle.command_line.specs.Seen.{seen};
-ghost use Rattle.link_server.specs.Doors.{DoorsMeaning};
-ghost use Rattle.link_server.specs.Links.{Telling, served_as};
-ghost use Rattle.panto_cli.specs.Ends.{Counted};
+ghost use Rattle.link_server.specs.Links.{served_as};
 ghost use Rattle.panto_cli.specs.Notes.{Noted, address_of};
 ghost use Rattle.panto_cli.specs.Outcomes.{status_in, line_of};
-ghost use Rattle.panto_cli.specs.Serve.{IsServe, Given, IsServedBy, HasHeard, AreNotes, CompletesLinks};
+ghost use Rattle.panto_cli.specs.Serve.{IsServe, IsServedBy, HasHeard, AreNotes, CompletesLinks};
 ghost use Rattle.panto_cli.specs.Serving.{IsPlan, EndsServing};
 
 mod ended;

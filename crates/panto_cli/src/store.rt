@@ -1,11 +1,11 @@
 //! The store in which the program keeps its terms.
 
 use command_set::ProofState;
-use ld_terms::TreeTerms;
 use std::mem::size_of;
+use term_store::HashTerms;
 
 /// The program's store of terms. What the program answers doesn't depend on it.
-pub type Store = TreeTerms;
+pub type Store = HashTerms;
 
-/// A tree reserves room for a state of this size for each of its entries.
+/// A state is a pointer to what it shares with others: a tree reserves room for at most 32 bytes for each of its entries.
 const _: () = prove!(size_of::<ProofState<Store>>() <= 32);

@@ -41,11 +41,17 @@ where
     Vec::from_slice(alloc, sink.bytes())
 }
 
-/// Whether the replies over both stores are the same and no fewer than the lines.
-fn agree<R: Threads + Sync>(rt: &R, alloc: Global, text: &[u8]) -> Result<bool, AllocError> {
+/// Whether the replies over both stores are the same, no fewer than the lines, and end like this.
+fn agree<R: Threads + Sync>(
+    rt: &R,
+    alloc: Global,
+    text: &[u8],
+    end: &[u8],
+) -> Result<bool, AllocError> {
     let plain = replies(rt, alloc, TreeTerms::new(alloc)?, text)?;
     let shared = replies(rt, alloc, HashTerms::new(alloc)?, text)?;
-    Ok(count_lines(&plain) >= count_lines(text) && plain == shared)
+    let all = count_lines(&plain) >= count_lines(text);
+    Ok(all && plain.ends_with(end) && plain == shared)
 }
 
 fn count_lines(text: &[u8]) -> usize {
@@ -63,7 +69,7 @@ fn generated_sessions(rt: HostRuntime) -> Result<(), Fail> {
     let alloc = rt.alloc();
     for seed in 0..5 {
         let text = make_session(alloc, seed, 20)?;
-        assert!(rt; agree(&rt, alloc, text.as_slice())?);
+        assert!(rt; agree(&rt, alloc, text.as_slice(), b"}\n")?);
     }
     Ok(())
 }
@@ -82,11 +88,13 @@ fn a_session_of_expressions_and_items(rt: HostRuntime) -> Result<(), Fail> {
         env.inspect {\"envId\":1,\"name\":\"four\"}\n\
         env.catalog {\"envId\":2}\n\
         expr.echo {\"envId\":2,\"expr\":\"refl(four())\"}\n\
-        expr.echo {\"envId\":2,\"expr\":\"fun (p : eq(four(), s(s(s(s(z())))))) => p\",\"fuel\":20}\n\
+        expr.echo {\"envId\":2,\"expr\":\"fun (p : eq(four(), s(s(s(s(z())))))) => p\",\"fuel\":2}\n\
         expr.echo {\"envId\":2,\"expr\":\"fun (p : eq(four(), s(s(s(s(z())))))) => p\"}\n\
         expr.echo {\"envId\":2,\"expr\":\"eq(z())\"}\n\
         stat\n";
-    assert!(rt; agree(&rt, alloc, text)?);
+    let end =
+        b"\"name\":\"eq\",\"seq\":13,\"wanted\":2}\n{\"envs\":3,\"live\":0,\"seq\":14,\"states\":0}\n";
+    assert!(rt; agree(&rt, alloc, text, end)?);
     Ok(())
 }
 
@@ -103,58 +111,81 @@ fn a_session_of_moves(rt: HostRuntime) -> Result<(), Fail> {
         goal.resume {\"goals\":[3],\"stateId\":2}\n\
         goal.resume {\"goals\":[9],\"stateId\":2}\n\
         goal.move {\"stateId\":3,\"move\":\"exact cb()\"}\n\
-        goal.print {\"stateId\":4}\n\
+        goal.print {\"stateId\":5}\n\
         goal.start {\"envId\":1,\"expr\":\"(A : *) -> A -> not(not(A))\"}\n\
-        goal.move {\"stateId\":5,\"move\":\"intro A\"}\n\
-        goal.move {\"stateId\":6,\"move\":\"intro x\"}\n\
-        goal.move {\"stateId\":7,\"move\":\"unfold not\"}\n\
-        goal.move {\"stateId\":7,\"move\":\"intro f\"}\n\
-        goal.move {\"stateId\":8,\"move\":\"apply f\"}\n\
-        goal.tries {\"stateId\":7,\"tries\":[{\"move\":\"intro f\"},{\"move\":\"exact x\"},{\"move\":\"assumption\"},{\"move\":\"have h : A\"}]}\n\
+        goal.move {\"stateId\":6,\"move\":\"intro A\"}\n\
+        goal.move {\"stateId\":7,\"move\":\"intro x\"}\n\
+        goal.move {\"stateId\":8,\"move\":\"unfold not\"}\n\
+        goal.move {\"stateId\":9,\"move\":\"intro f\"}\n\
+        goal.move {\"stateId\":10,\"move\":\"apply f\"}\n\
+        goal.tries {\"stateId\":9,\"tries\":[{\"move\":\"intro f\"},{\"move\":\"exact x\"},{\"move\":\"assumption\"},{\"move\":\"have h : A\"}]}\n\
+        goal.print {\"stateId\":11}\n\
+        goal.delete {\"stateId\":9}\n\
         goal.print {\"stateId\":9}\n\
-        goal.move {\"stateId\":9,\"move\":\"assumption\"}\n\
-        goal.print {\"stateId\":10}\n\
-        goal.delete {\"stateId\":7}\n\
-        goal.print {\"stateId\":7}\n\
+        goal.move {\"stateId\":11,\"move\":\"assumption\"}\n\
+        goal.print {\"stateId\":14}\n\
         stat\n\
         reset\n\
         stat\n";
-    assert!(rt; agree(&rt, alloc, text)?);
+    let end =
+        b"{\"dormant\":[],\"goals\":[],\"seq\":24,\"solved\":true,\"term\":\"fun (%0 : *) => fun (%1 : %0) => fun (%2 : %0 -> falsum()) => %2 %1\",\"type\":\"(%0 : *) -> %0 -> not(not(%0))\"}\n\
+        {\"envs\":2,\"live\":14,\"seq\":25,\"states\":15}\n\
+        {\"deleted\":14,\"seq\":26}\n\
+        {\"envs\":2,\"live\":0,\"seq\":27,\"states\":15}\n";
+    assert!(rt; agree(&rt, alloc, text, end)?);
     Ok(())
 }
 
-/// Twenty rounds of `box` over one number in two places: each makes the proof three times as large.
-fn repeated_parts(alloc: Global) -> Result<Vec<u8>, AllocError> {
+/// Twenty rounds of `box` over one number in two places, from this state of a goal on: each makes the proof three times as
+/// large. Then the number is told and the proof printed.
+fn repeated_parts(
+    alloc: Global,
+    goal: &str,
+    first: u32,
+    number: &str,
+) -> Result<Vec<u8>, AllocError> {
     let mut text = Vec::from_slice(
         alloc,
-        b"env.add {\"text\":\"prim N : *; prim z : N(); prim eq (x : N()) (y : N()) : *; prim refl (x : N()) : eq(x, x); prim box (x : N()) (y : N()) (p : eq(x, y)) : N();\"}\n\
-        goal.start {\"envId\":1,\"expr\":\"N()\"}\n",
+        b"env.add {\"text\":\"prim N : *; prim z : N(); prim eq (x : N()) (y : N()) : *; prim refl (x : N()) : eq(x, x); prim box (x : N()) (y : N()) (p : eq(x, y)) : N();\"}\n",
     )?;
-    for round in 0..20u32 {
-        let refined = round.wrapping_mul(2);
-        let exact = refined.wrapping_add(1);
+    text.extend_from_slice(goal.as_bytes())?;
+    let mut state = first;
+    for _ in 0..20 {
+        let exact = state.wrapping_add(1);
         let lines = format!(in alloc;
-            "goal.move {{\"stateId\":{refined},\"move\":\"refine box(?, ?, ?)\"}}\n\
+            "goal.move {{\"stateId\":{state},\"move\":\"refine box(?, ?, ?)\"}}\n\
             goal.move {{\"stateId\":{exact},\"goalId\":2,\"move\":\"exact refl(_)\"}}\n"
         )?;
         text.extend_from_slice(lines.as_bytes())?;
+        state = state.wrapping_add(2);
     }
-    text.extend_from_slice(
-        b"goal.move {\"stateId\":40,\"move\":\"exact z()\"}\ngoal.print {\"stateId\":41}\n",
+    let solved = state.wrapping_add(1);
+    let lines = format!(in alloc;
+        "goal.move {{\"stateId\":{state},\"move\":\"exact {number}\"}}\ngoal.print {{\"stateId\":{solved}}}\n"
     )?;
+    text.extend_from_slice(lines.as_bytes())?;
     Ok(text)
 }
 
 #[test]
 fn parts_that_stand_many_times(rt: HostRuntime) -> Result<(), Fail> {
     let alloc = rt.alloc();
-    let text = repeated_parts(alloc)?;
-    assert!(rt; agree(&rt, alloc, &text)?);
-    let output = replies(&rt, alloc, HashTerms::new(alloc)?, &text)?;
-    assert!(rt;
-        output.ends_with(
-            b"{\"dormant\":[],\"goals\":[],\"seq\":43,\"solved\":true,\"term\":{\"depth\":41,\"nodes\":6973568801},\"type\":\"N()\"}\n"
-        )
-    );
+    let goal = "goal.start {\"envId\":1,\"expr\":\"N()\"}\n";
+    let text = repeated_parts(alloc, goal, 0, "z()")?;
+    let end =
+        b"{\"dormant\":[],\"goals\":[],\"seq\":43,\"solved\":true,\"term\":{\"depth\":41,\"nodes\":6973568801},\"type\":\"N()\"}\n";
+    assert!(rt; agree(&rt, alloc, &text, end)?);
+    Ok(())
+}
+
+#[test]
+fn parts_that_stand_many_times_in_a_context(rt: HostRuntime) -> Result<(), Fail> {
+    let alloc = rt.alloc();
+    let goal = "goal.start {\"envId\":1,\"expr\":\"(n : N()) -> N()\"}\n\
+        goal.move {\"stateId\":0,\"move\":\"intro n\"}\n";
+    let text = repeated_parts(alloc, goal, 1, "n")?;
+    let end =
+        b"{\"dormant\":[],\"goals\":[],\"seq\":44,\"solved\":true,\"term\":{\"depth\":42,\"nodes\":6973568803},\"type\":\"N() -> N()\"}\n";
+    assert!(rt; agree(&rt, alloc, &text, end)?);
     Ok(())
 }

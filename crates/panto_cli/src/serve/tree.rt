@@ -8,13 +8,12 @@ ghost use Rattle.pan_io.specs.Faults.{Rose};
 ghost use Rattle.command_line.specs.Form.{serve};
 ghost use Rattle.goal_state.specs.State.{State};
 ghost use Rattle.command_set.specs.Values.{value};
-ghost use Rattle.link_server.specs.Doors.{DoorsMeaning};
-ghost use Rattle.link_server.specs.Links.{Telling, served_as};
+ghost use Rattle.link_server.specs.Links.{served_as};
 ghost use Rattle.link_server.specs.Served.{AreNewPasses};
 ghost use Rattle.panto_cli.specs.Books.{Accepts};
 ghost use Rattle.panto_cli.specs.Ends.{Counted};
 ghost use Rattle.panto_cli.specs.Outcomes.{status_in};
-ghost use Rattle.panto_cli.specs.Serve.{Given, HasHeard};
+ghost use Rattle.panto_cli.specs.Serve.{HasHeard};
 ghost use Rattle.panto_cli.specs.Serving.{IsPlan, IsClosedBoard, Hears, EndsServing};
 
 use crate::host::Host;

@@ -1,5 +1,4 @@
-use Rattle.std.proofs.Common.{◌≡◌, Some, drop, ap, sym, ◌∙◌}
-use Rattle.panto_cli.specs.Run.{opened}
+use Rattle.std.proofs.Common.{Some, drop, ◌∙◌}
 use Rattle.panto_cli.proofs.Demos.{own_end, counts_are, never_rose, at_ok}
 use Rattle.panto_cli.proofs.demo.run_text.Goals as goal
 
