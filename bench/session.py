@@ -61,6 +61,17 @@ class Server:
         self.child.stdin.close()
         assert self.child.wait() == 0
 
+    def __enter__(self):
+        return self
+
+    def __exit__(self, kind, value, trace):
+        """Ends the program: on its own where all went well, else by force."""
+        if kind is None:
+            self.end()
+        else:
+            self.child.kill()
+            self.child.wait()
+
 def begin(caller, generator):
     """Starts the goal of one round and brings its variables in: the first state, the last one, the number of variables, and which of them solves."""
     k, e = generator.draw()
