@@ -1,6 +1,6 @@
 //! The store whose nodes stand once each.
 
-ghost use Rattle.std.specs.Prelude.{◌≡◌, ◌<◌, [], ◌++◌, ◌∷◌, IfOk, IfErr, OnOk, length, List as Listed, All, map, None, slice_index_or, ℕ};
+ghost use Rattle.std.specs.Prelude.{◌≡◌, ◌<◌, [], ◌++◌, ◌∷◌, IfOk, IsOkAnd, IfErr, OnOk, length, List as Listed, All, map, None, slice_index_or, ℕ};
 ghost use Rattle.std.specs.FinMap.{find};
 ghost use Rattle.ld_trees.specs.Term.{Term};
 ghost use Rattle.ld_terms.specs.Nodes.{tree_at, tree_over, trees_of, IsBelow, IsPlace, tree_of_place};
@@ -45,7 +45,7 @@ impl Model for HashTerms {
 impl HashTerms {
     /// The store without a node. It takes no memory and doesn't fail.
     pub fn new(_alloc: Global) -> Result<HashTerms, AllocError>
-        ensures { IfOk result (λ s. s ≡ []) }
+        ensures { IsOkAnd result (λ s. s ≡ []) }
     {
         Ok(HashTerms {
             ids: SharedMap::new(),
