@@ -25,7 +25,7 @@ enum Change<'a, H> {
 /// variables. Older handles keep their meaning. A part that doesn't change keeps its handle, and a part that stands many times under one
 /// handle is changed once for each number of binders above it.
 ///
-/// Fails for want of memory alone. An index above 4,294,967,295, or as many binders above a node, count as want of memory.
+/// Fails for want of memory alone. An index above 4,294,967,295, or more binders than that above a node, count as want of memory.
 #[tactic(auto, using(crate::proofs::Changes::no_changes, ld_terms::proofs::Instantiation::subst_all_none, ld_terms::proofs::Instantiation::no_arguments, ld_trees::proofs::Recursions::subst_all_is))]
 pub(crate) fn subst_shared<T: Terms>(
     alloc: Global,

@@ -56,7 +56,7 @@ fn give<T: Terms>(
     Ok(assign(alloc, metas, terms, m, value)?)
 }
 
-/// `?m := ?next[args] -> ?next[args]`.
+/// Gives `m` the value `?next[args] -> ?next[args]`.
 fn link<T: Terms>(
     alloc: Global,
     terms: &mut T,
@@ -95,22 +95,27 @@ fn chain<T: Terms>(
     Ok(metas)
 }
 
-/// How many nodes `?0[args]` unfolds to, where each of 40 metavariables over a context is linked to the next one, and the last is `*`.
+/// How many nodes `?0[given]` unfolds to, where each of 40 metavariables over a context is linked to the next one, which gets `args`,
+/// and the one behind them is `last`.
 fn nodes_of_chain<T: Terms>(
     alloc: Global,
     terms: &mut T,
     ctx: &[Local<T::Handle>],
     args: &[T::Handle],
+    last: T::Handle,
+    given: &[T::Handle],
 ) -> Result<u64, MetaFault>
     requires ctx { AreLocals (T.holds terms.old) ctx.now }
     requires names { IsContext (names_of ctx.now) }
     requires args { All (T.holds terms.old) args.now }
+    requires last { T.holds terms.old last }
+    requires given { All (T.holds terms.old) given.now }
 {
     let star = star(alloc, terms)?;
-    let root = terms.make(alloc, View::Meta(0, args))?;
+    let root = terms.make(alloc, View::Meta(0, given))?;
     let open = declare_often(alloc, &*terms, ctx, star, 41)?;
     let linked = chain(alloc, terms, open, args, 40)?;
-    let metas = give(alloc, &*terms, &linked, 40, star)?;
+    let metas = give(alloc, &*terms, &linked, 40, last)?;
     let found = unfold_metas(alloc, terms, &metas, root)?;
     Ok(terms.nodes(found))
 }
@@ -119,7 +124,8 @@ fn nodes_of_chain<T: Terms>(
 fn shared_values_are_unfolded_once(rt: HostRuntime) -> Result<(), Fail> {
     let alloc = rt.alloc();
     let mut terms = TreeTerms::new(alloc)?;
-    let found = nodes_of_chain(alloc, &mut terms, &[], &[]);
+    let last = star(alloc, &mut terms)?;
+    let found = nodes_of_chain(alloc, &mut terms, &[], &[], last, &[]);
     assert!(rt; matches!(found, Ok(2_199_023_255_551)));
     Ok(())
 }
@@ -136,12 +142,14 @@ fn one_entry<H: Copy>(alloc: Global, ty: H) -> Result<Vec<Local<H>>, AllocError>
     Ok(entries)
 }
 
-/// The same of a chain behind one entry, where each metavariable has the argument `Var 0`.
+/// The same of a chain behind one entry, which the last one stands for. The first metavariable has the argument `* -> *`, and each
+/// other one `Var 0`: before the arrow the entry, behind it the arrow's own variable.
 fn nodes_behind<T: Terms>(alloc: Global, terms: &mut T) -> Result<u64, MetaFault> {
     let star = star(alloc, terms)?;
-    let last = terms.make(alloc, View::Var(0))?;
+    let arrow = product(alloc, terms, star, star)?;
+    let entry = terms.make(alloc, View::Var(0))?;
     let ctx = one_entry(alloc, star)?;
-    nodes_of_chain(alloc, terms, &ctx, &[last])
+    nodes_of_chain(alloc, terms, &ctx, &[entry], entry, &[arrow])
 }
 
 #[test]
@@ -149,6 +157,6 @@ fn arguments_are_put_into_shared_values_once(rt: HostRuntime) -> Result<(), Fail
     let alloc = rt.alloc();
     let mut terms = TreeTerms::new(alloc)?;
     let found = nodes_behind(alloc, &mut terms);
-    assert!(rt; matches!(found, Ok(2_199_023_255_551)));
+    assert!(rt; matches!(found, Ok(2_199_023_255_553)));
     Ok(())
 }
