@@ -7,5 +7,5 @@ use term_store::HashTerms;
 /// The program's store of terms. What the program answers doesn't depend on it.
 pub type Store = HashTerms;
 
-/// A state is a pointer to what it shares with others: a tree reserves room for at most 32 bytes for each of its entries.
-const _: () = prove!(size_of::<ProofState<Store>>() <= 32);
+/// A state is one pointer to what its clones share: a tree reserves room for one state for each of its entries.
+const _: () = prove!(size_of::<ProofState<Store>>() <= 8);
