@@ -9,9 +9,10 @@ Usage: bench/sharing.py [PROGRAM ...]      (default the built program; run `./pa
 - *Long context*: 150 times `intro`, then `goal.print` of the state with 150 entries. Seconds, and those of the printing alone.
 - *Session*: rounds as in bench/session.py. Replies a second.
 
-A measure whose program fails, or answers something else than it should, has no figure, and the status is 1.
+A measure whose program fails, takes longer than a minute or more room than the bound, or answers something else than it should, has no figure,
+and the status is 1.
 """
-import sys, time
+import signal, sys, time
 
 from measure import PANTO
 from session import Generator, Server, begin, play_many
@@ -19,6 +20,10 @@ from session import Generator, Server, begin, play_many
 ITEMS = ("prim N : *; prim z : N(); prim eq (x : N()) (y : N()) : *; prim refl (x : N()) : eq(x, x); "
          "prim box (x : N()) (y : N()) (p : eq(x, y)) : N();")
 STATES = 100_000
+# Of 100,000 states, in MiB. States that shared nothing would take several times that.
+BOUND = 500
+# For one measure, in seconds.
+LIMIT = 60
 
 def repeated_parts(program, goal, moves, number, proof):
     with Server(100, program) as server:
@@ -52,6 +57,7 @@ def memory(program):
             server.ask("goal.move", stateId=state, move=f"exact x{e}")
             states += k + 4
         grown = (server.resident() - small) / 1024
+    assert grown <= BOUND, grown
     return f"{grown:.0f} MiB for {states:,} states"
 
 def long_context(program):
@@ -79,14 +85,20 @@ MEASURES = [
     ("session", session),
 ]
 
+def too_long(*_):
+    raise TimeoutError
+
 def main():
     failed = False
+    signal.signal(signal.SIGALRM, too_long)
     for name, measure in MEASURES:
         for program in sys.argv[1:] or [PANTO]:
+            signal.alarm(LIMIT)
             try:
                 shown = measure(program)
-            except (ValueError, AssertionError, BrokenPipeError) as error:
+            except (ValueError, KeyError, AssertionError, OSError) as error:
                 shown, failed = f"no figure: {type(error).__name__}", True
+            signal.alarm(0)
             print(f"{name:22} {shown}   ({program})", flush=True)
     return int(failed)
 
