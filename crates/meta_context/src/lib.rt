@@ -20,4 +20,6 @@ pub use metas::{MOST_METAS, Metas};
 pub use walk::depends;
 
 #[cfg(test)]
+mod env_tests;
+#[cfg(test)]
 mod tests;

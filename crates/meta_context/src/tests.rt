@@ -11,7 +11,7 @@ use std::alloc::{AllocError, Global};
 use std::test::Fail;
 
 /// `*`.
-fn star<T: Terms>(alloc: Global, terms: &mut T) -> Result<T::Handle, AllocError>
+pub(crate) fn star<T: Terms>(alloc: Global, terms: &mut T) -> Result<T::Handle, AllocError>
     ensures held { IfOk result (λ h. T.holds terms.new h) }
     ensures kept { Keeps (T.holds terms.old) (T.means terms.old) (T.holds terms.new) (T.means terms.new) }
 {
@@ -95,7 +95,7 @@ fn declare_behind<T: Terms>(
 }
 
 /// Declares a metavariable over the empty context with a type.
-fn declare_closed<T: Terms>(
+pub(crate) fn declare_closed<T: Terms>(
     alloc: Global,
     metas: &Metas<T::Handle>,
     terms: &T,
